@@ -1,0 +1,3 @@
+pub mod Depots
+pub mod Outcomes
+pub mod Gates

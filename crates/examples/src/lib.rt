@@ -1,0 +1,3 @@
+pub mod gates;
+#[cfg(test)]
+mod tests;

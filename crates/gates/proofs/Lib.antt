@@ -1,0 +1,9 @@
+pub mod Pigeon
+pub mod Positions
+pub mod Tables
+pub mod Rows
+pub mod Rivalry
+pub mod Replies
+pub mod Stability
+pub mod Agreement
+pub mod Lawfulness

@@ -1,0 +1,11 @@
+pub mod First
+pub mod Heights
+pub mod Pairs
+pub mod Verdicts
+pub mod Climbs
+pub mod Bounds
+pub mod Keeps
+pub mod Promised
+pub mod Runs
+pub mod Once
+pub mod Told

@@ -1,0 +1,11 @@
+pub mod Limits
+pub mod Order
+pub mod Replies
+pub mod Laws
+pub mod Refusals
+pub mod Steps
+pub mod History
+pub mod Promises
+pub mod Runs
+pub mod Calls
+pub mod First
