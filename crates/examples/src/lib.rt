@@ -1,3 +1,4 @@
 pub mod gates;
 #[cfg(test)]
 mod tests;
+pub mod traces;

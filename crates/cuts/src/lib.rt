@@ -1,0 +1,4 @@
+pub mod channel;
+pub mod conditions;
+pub mod fault;
+pub mod job;

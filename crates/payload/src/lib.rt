@@ -1,0 +1,3 @@
+pub mod kinds;
+pub mod mark;
+pub mod wish;

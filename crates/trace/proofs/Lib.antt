@@ -1,0 +1,12 @@
+pub mod Counts
+pub mod Rows
+pub mod Appended
+pub mod Sources
+pub mod Clocks
+pub mod Known
+pub mod Judging
+pub mod Grown
+pub mod Steps
+pub mod Tables
+pub mod Pushed
+pub mod Traces
