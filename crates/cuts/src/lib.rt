@@ -1,3 +1,5 @@
+#![tactic(auto)]
+
 pub mod channel;
 pub mod conditions;
 pub mod fault;

@@ -1,3 +1,5 @@
+#![tactic(auto)]
+
 mod depot;
 mod report;
 

@@ -1,3 +1,5 @@
+#![tactic(auto)]
+
 pub mod gates;
 #[cfg(test)]
 mod tests;

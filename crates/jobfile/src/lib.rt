@@ -1,3 +1,5 @@
+#![tactic(auto)]
+
 mod events;
 pub mod fault;
 mod fields;

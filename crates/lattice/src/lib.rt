@@ -1,3 +1,5 @@
+#![tactic(auto)]
+
 pub mod board;
 pub mod call;
 pub mod condition;

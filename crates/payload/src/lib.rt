@@ -1,3 +1,5 @@
+#![tactic(auto)]
+
 pub mod kinds;
 pub mod mark;
 pub mod wish;

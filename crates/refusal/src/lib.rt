@@ -1,3 +1,5 @@
+#![tactic(auto)]
+
 // Where a refusal comes from.
 #[derive(Clone, Copy, PartialEq, Eq)]
 pub enum Layer {

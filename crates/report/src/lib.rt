@@ -1,3 +1,5 @@
+#![tactic(auto)]
+
 pub mod earliest;
 pub mod lines;
 pub mod write;

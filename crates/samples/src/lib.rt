@@ -1,3 +1,5 @@
+#![tactic(auto)]
+
 ghost use Rattle.samples.specs.Rows.{Rows};
 ghost use Rattle.samples.specs.Sample.{Sample};
 

@@ -1,3 +1,5 @@
+#![tactic(auto)]
+
 pub mod clock;
 pub mod event;
 pub mod trace;

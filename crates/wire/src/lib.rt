@@ -1,3 +1,5 @@
+#![tactic(auto)]
+
 pub mod frame;
 pub mod reader;
 pub mod record;
