@@ -6,7 +6,7 @@ use crate::condition::Condition;
 
 // Makes the calls, in their order, on a new board that the condition serves.
 pub fn play<C: Condition>(condition: &C, calls: &[Call]) -> Board
-    ensures { Played (holds condition.now) (reply condition.now) calls.now result }
+    ensures { Played (C.holds condition.now) (C.reply condition.now) calls.now result }
 {
     let mut board = Board::new();
     for call in calls {

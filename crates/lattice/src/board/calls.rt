@@ -87,7 +87,7 @@ impl Board {
     }
 
     pub fn run<C: Condition>(&mut self, condition: &C, budget: u32) -> Answer
-        ensures { RunCall (holds condition.now) (reply condition.now) budget self.old result self.new }
+        ensures { RunCall (C.holds condition.now) (C.reply condition.now) budget self.old result self.new }
     {
         match self.verdict {
             Verdict::Found => Answer::Found,

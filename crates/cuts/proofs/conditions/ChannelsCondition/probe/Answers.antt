@@ -4,4 +4,4 @@ use Rattle.cuts.specs.Jobs.{channels_reply}
 use Rattle.cuts.proofs.conditions.ChannelsCondition.probe.Goals as goal
 
 pub returns : goal.returns
-returns g c = c.reply-channels.ensures.is ∙ ap (λ (j : TraceJob). channels_reply j c.args.v.now) c.lend.ensures
+returns g c = c.reply_channels.ensures.is ∙ ap (λ (j : TraceJob). channels_reply j c.args.v.now) c.lend.ensures

@@ -4,4 +4,4 @@ use Rattle.cuts.specs.Jobs.{watched_reply}
 use Rattle.cuts.proofs.conditions.WatchedCondition.probe.Goals as goal
 
 pub returns : goal.returns
-returns g c = c.reply-watched.ensures.is ∙ ap (λ (j : TraceJob). watched_reply j c.args.v.now) c.lend.ensures
+returns g c = c.reply_watched.ensures.is ∙ ap (λ (j : TraceJob). watched_reply j c.args.v.now) c.lend.ensures

@@ -22,17 +22,17 @@ returns-then-receiver-n c =
       | then-receiver-n-via-else-receiver-n+then-receiver-sender w ↦ (itself room sends (omega arith), refl)
     ]
 
-pub invariant-of-self : goal.invariant-of-self
-invariant-of-self c =
+pub invariant_of-self : goal.invariant_of-self
+invariant_of-self c =
     let j = c.args.self.now in
     let new : Channel = record { sender = c.args.sender; receiver = c.args.receiver } in
     let none : Channel = record { sender = 0; receiver = 0 } in
-    let items : vec_items c.push-reserved.new.self ≡ listed j ++ new ∷ [] = c.push-reserved.ensures.items in
+    let items : vec_items c.push_reserved.new.self ≡ listed j ++ new ∷ [] = c.push_reserved.ensures.items in
     let sends : c.args.sender < j.trace.n = omega arith in
     let receives : c.args.receiver < j.trace.n = omega arith in
     let apart : c.args.receiver ≡ c.args.sender → ⊥ = λ e. omega arith in
-    let room : 8 ≤ vec_capacity c.push-reserved.new.self = omega (arith, c.push-reserved.ensures.capacity, j.room) in
-    let few : length (vec_items c.push-reserved.new.self) ≤ 8 = rw items (omega (arith, length_push (listed j) new, j.channels.ok.0)) in (
+    let room : 8 ≤ vec_capacity c.push_reserved.new.self = omega (arith, c.push_reserved.ensures.capacity, j.room) in
+    let few : length (vec_items c.push_reserved.new.self) ≤ 8 = rw items (omega (arith, length_push (listed j) new, j.channels.ok.0)) in (
       room,
       (
         few,

@@ -6,7 +6,7 @@ use Rattle.trace.proofs.Traces.{valid}
 use Rattle.cuts.specs.Jobs.{processes, happened}
 use Rattle.cuts.specs.Greatest.{Merged, merged_none, merged_skip, merged_more, merged_greatest}
 use Rattle.cuts.proofs.job.TraceJob.greatest.Goals as goal
-use Rattle.cuts.proofs.job.TraceJob.greatest.Goals.{in-Some+in-Some-clock, in-Some+in-default-clock, in-default}
+use Rattle.cuts.proofs.job.TraceJob.greatest.Goals.{in-Some+in-Some-clock, in-Some+in_default-clock, in_default}
 
 pub loop-i-init : goal.loop-i-init
 loop-i-init c = subst (Merged (happened c.args.self.now) (at c.args.v.now) 0) (sym c.zero-most.ensures) (merged_none _ _)
@@ -24,8 +24,8 @@ loop-i-preserved c =
           subst (Merged es h (i + 1))
           (sym (ap (λ (x : Clock). x.entries) w.most-is ∙ w.merge.ensures ∙ ap (merged c.loop-i.most.entries) w.in-Some-clock.ensures.rule))
           (merged_more es h i w.in-Some.last c.loop-i.most.entries n.0 n.1 (n.2 ∙ height) c.loop-i.invariant)
-      | in-Some+in-default-clock w ↦ absurd (omega (arith, w.in-Some.ensures.0, w.in-default-clock.ensures))
-      | in-default w ↦ subst (Merged es h (i + 1)) (sym (ap (λ (x : Clock). x.entries) w.most-is)) (merged_skip es h i c.loop-i.most.entries (λ low high. w.in-default.ensures (omega arith) (omega arith)) c.loop-i.invariant)
+      | in-Some+in_default-clock w ↦ absurd (omega (arith, w.in-Some.ensures.0, w.in_default-clock.ensures))
+      | in_default w ↦ subst (Merged es h (i + 1)) (sym (ap (λ (x : Clock). x.entries) w.most-is)) (merged_skip es h i c.loop-i.most.entries (λ low high. w.in_default.ensures (omega arith) (omega arith)) c.loop-i.invariant)
     ]
 
 pub returns : goal.returns

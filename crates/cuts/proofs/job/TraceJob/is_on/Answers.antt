@@ -5,8 +5,8 @@ use Rattle.cuts.specs.Sides.{asks}
 use Rattle.cuts.proofs.Deals.{asks_past, asks_at}
 use Rattle.cuts.proofs.job.TraceJob.is_on.Goals as goal
 
-pub returns-in-default : goal.returns-in-default
-returns-in-default c = sym (asks_past (happened c.args.self.now) c.args.side c.args.number c.in-default.ensures)
+pub returns-in_default : goal.returns-in_default
+returns-in_default c = sym (asks_past (happened c.args.self.now) c.args.side c.args.number c.in_default.ensures)
 
 pub returns-in-Some-event : goal.returns-in-Some-event
 returns-in-Some-event c =

@@ -5,8 +5,8 @@ use Rattle.cuts.specs.Jobs.{happened}
 use Rattle.cuts.specs.Wants.{state_at, state_none}
 use Rattle.cuts.proofs.job.TraceJob.is_wanted.Goals as goal
 
-pub returns-in-default : goal.returns-in-default
-returns-in-default c = sym (state_none (happened c.args.self.now) c.args.self.now.wish c.args.process c.args.height c.in-default.ensures)
+pub returns-in_default : goal.returns-in_default
+returns-in_default c = sym (state_none (happened c.args.self.now) c.args.self.now.wish c.args.process c.args.height c.in_default.ensures)
 
 pub returns-in-Some-event : goal.returns-in-Some-event
 returns-in-Some-event c =

@@ -14,7 +14,7 @@ returns-then-sent-received c =
     let s : c.tally-sent.result ≡ sent es ch (h ch.sender) = c.tally-sent.ensures ∙ ap (λ hs. sent es ch (get_or hs ch.sender 0)) c.heights.ensures in
     let r : c.tally-received.result ≡ received es ch (h ch.receiver) = c.tally-received.ensures ∙ ap (λ hs. received es ch (get_or hs ch.receiver 0)) c.heights-2.ensures in (
       λ l. omega arith,
-      c.lift-to.ensures ∙ sym (lifts_sender es ch h c.reach.result (omega arith)
+      c.lift_to.ensures ∙ sym (lifts_sender es ch h c.reach.result (omega arith)
           (subst (λ (x : ℕ). MatchOption c.reach.result (Short es (sent es ch) ch.sender x) (λ q. Reaches es (sent es ch) ch.sender x q)) r c.reach.ensures)),
     )
 
@@ -27,6 +27,6 @@ returns-then-received-sent c =
     let r : c.tally-received.result ≡ received es ch (h ch.receiver) = c.tally-received.ensures ∙ ap (λ hs. received es ch (get_or hs ch.receiver 0)) c.heights-2.ensures in
     let o = c.reach-then-received-sent.result in (
       λ l. omega arith,
-      c.lift-to-then-received-sent.ensures ∙ sym (lifts_receiver es ch h o (omega arith)
+      c.lift_to-then-received-sent.ensures ∙ sym (lifts_receiver es ch h o (omega arith)
           (subst (λ (x : ℕ). MatchOption o (Short es (received es ch) ch.receiver x) (λ q. Reaches es (received es ch) ch.receiver x q)) s c.reach-then-received-sent.ensures)),
     )

@@ -11,14 +11,14 @@ loop-before-init c k low high = absurd (omega arith)
 pub loop-before-preserved : goal.loop-before-preserved
 loop-before-preserved c =
     let j = c.args.self.now in
-    range_more (λ k. state_wanted (happened j) j.wish c.args.process k ≡ false) (c.args.height + 1) (c.loop-before.before + 1) c.loop-before.invariant (sym c.if-is-wanted.ensures)
+    range_more (λ k. state_wanted (happened j) j.wish c.args.process k ≡ false) (c.args.height + 1) (c.loop-before.before + 1) c.loop-before.invariant (sym c.if-is_wanted.ensures)
 
-pub returns-then-is-wanted : goal.returns-then-is-wanted
-returns-then-is-wanted c =
+pub returns-then-is_wanted : goal.returns-then-is_wanted
+returns-then-is_wanted c =
     let j = c.args.self.now in
     let p = c.args.process in (
       omega arith,
-      state_is_wanted (happened j) j.wish p (c.loop-before.before + 1) (sym c.if-is-wanted.ensures),
+      state_is_wanted (happened j) j.wish p (c.loop-before.before + 1) (sym c.if-is_wanted.ensures),
       (λ k low high. state_unwanted (happened j) j.wish p k (c.loop-before.invariant k (omega arith) high)),
     )
 

@@ -20,7 +20,7 @@ returns-in-Ok c =
     let e = c.in-Ok.ensures in
     record {
       event = _;
-      is = record { process_is = refl; action_is = refl; payload_is = c.in-four-payload.ensures };
+      is = record { process_is = refl; action_is = refl; payload_is = c.in_four-payload.ensures };
       outcome = (c.if-part-width.false ∙ c.width.ensures, e.outcome.2, e.outcome.1, e.outcome.0, refl, refl, refl);
       exactly = λ _ _. tt;
     }
@@ -30,7 +30,7 @@ returns-in-Err c =
     let e = c.in-Err.ensures in
     record {
       event = _;
-      is = record { process_is = refl; action_is = refl; payload_is = c.in-four-payload.ensures };
+      is = record { process_is = refl; action_is = refl; payload_is = c.in_four-payload.ensures };
       outcome = (refused (c.if-part-width.false ∙ c.width.ensures) e.outcome.0, same_job _ c.args.self.now e.outcome.1 refl refl refl);
       exactly = λ _ valid. e.exactly valid;
     }

@@ -13,11 +13,11 @@ use Rattle.cuts.proofs.job.TraceJob.reply_consistent.Goals as goal
 told : (j : TraceJob) (v : Vector) (r : Reply) → consistent_reply j v ≡ r → record { is : r ≡ consistent_reply j v; says : ConsistentSays j v r }
 told j v r e = record { is = sym e; says = subst (ConsistentSays j v) e (consistent_says (processes j) (happened j) (at v)) }
 
-pub returns-then-is-beyond : goal.returns-then-is-beyond
-returns-then-is-beyond c =
+pub returns-then-is_beyond : goal.returns-then-is_beyond
+returns-then-is_beyond c =
     let j = c.args.self.now in
     let v = c.args.v.now in
-    told j v Never (consistent_never (processes j) (happened j) (at v) (sym c.if-is-beyond.ensures))
+    told j v Never (consistent_never (processes j) (happened j) (at v) (sym c.if-is_beyond.ensures))
 
 pub loop-i-init : goal.loop-i-init
 loop-i-init c = λ k lt. absurd (omega arith)
@@ -38,10 +38,10 @@ returns-then-heights-i c =
     let lt : i < processes j = omega arith in
     let most = c.greatest-most.ensures i lt in
     let height : get_or c.heights.result.now i 0 ≡ at v i = ap (λ hs. get_or hs i 0) c.heights.ensures in
-    told j v _ (consistent_lift (processes j) (happened j) (at v) i (sym c.if-is-beyond.ensures) lt c.loop-i.invariant (omega arith) ∙ ap (λ m. Lift (i, m)) (sym most))
+    told j v _ (consistent_lift (processes j) (happened j) (at v) i (sym c.if-is_beyond.ensures) lt c.loop-i.invariant (omega arith) ∙ ap (λ m. Lift (i, m)) (sym most))
 
 pub returns : goal.returns
 returns c =
     let j = c.args.self.now in
     let v = c.args.v.now in
-    told j v Holds (consistent_holds (processes j) (happened j) (at v) (sym c.if-is-beyond.ensures) (λ k lt. c.loop-i.invariant k (omega arith)))
+    told j v Holds (consistent_holds (processes j) (happened j) (at v) (sym c.if-is_beyond.ensures) (λ k lt. c.loop-i.invariant k (omega arith)))

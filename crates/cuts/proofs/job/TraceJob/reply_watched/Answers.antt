@@ -10,7 +10,7 @@ use Rattle.cuts.specs.Jobs.{processes, happened, watched_reply, WatchedSays}
 use Rattle.cuts.specs.Cutting.{beyond_within, beyond_over}
 use Rattle.cuts.specs.Watching.{settled, lowest, watched_only}
 use Rattle.cuts.proofs.job.TraceJob.reply_watched.Goals as goal
-use Rattle.cuts.proofs.job.TraceJob.reply_watched.Goals.{in-Some, in-None, else-watches-via-then-watches+else-not-is-wanted, else-watches-via-else-watches}
+use Rattle.cuts.proofs.job.TraceJob.reply_watched.Goals.{in-Some, in-None, else-watches-via-then-watches+else-not-is_wanted, else-watches-via-else-watches}
 
 -- a reply that the words allow is the reply
 abbrev Told : TraceJob → Vector → Reply → Type 0
@@ -19,28 +19,28 @@ Told j v r = record { is : r ≡ watched_reply j v; says : WatchedSays j v r }
 told : (j : TraceJob) (v : Vector) (r : Reply) → WatchedSays j v r → Told j v r
 told j v r s = record { is = sym (watched_only (processes j) (happened j) j.wish j.watch (at v) r s); says = s }
 
-pub returns-then-is-beyond : goal.returns-then-is-beyond
-returns-then-is-beyond c =
+pub returns-then-is_beyond : goal.returns-then-is_beyond
+returns-then-is_beyond c =
     let j = c.args.self.now in
     let v = c.args.v.now in
-    let over = beyond_over (processes j) (happened j) (at v) (sym c.if-is-beyond.ensures) in
+    let over = beyond_over (processes j) (happened j) (at v) (sym c.if-is_beyond.ensures) in
     told j v Never (watched.WatchedSays.past over.place over.less over.over)
 
 pub loop-i-init : goal.loop-i-init
 loop-i-init c = λ k lt. absurd (omega arith)
 
-pub returns-then-not-is-wanted : goal.returns-then-not-is-wanted
-returns-then-not-is-wanted c =
+pub returns-then-not-is_wanted : goal.returns-then-not-is_wanted
+returns-then-not-is_wanted c =
     let j = c.args.self.now in
     let v = c.args.v.now in
     let i = c.loop-i.i in
     let height : get_or c.heights.result.now i 0 ≡ at v i = ap (λ hs. get_or hs i 0) c.heights.ensures in
-    let inside = beyond_within (processes j) (happened j) (at v) (sym c.if-is-beyond.ensures) in
+    let inside = beyond_within (processes j) (happened j) (at v) (sym c.if-is_beyond.ensures) in
     let odd : unwanted (happened j) j.wish j.watch (at v) i ≡ true =
     ap (λ b. b && not (state_wanted (happened j) j.wish i (at v i))) (sym c.if-watches.ensures)
-    ∙ ap (λ x. not (state_wanted (happened j) j.wish i x)) (sym height) ∙ ap not (sym c.if-not-is-wanted.ensures) in
+    ∙ ap (λ x. not (state_wanted (happened j) j.wish i x)) (sym height) ∙ ap not (sym c.if-not-is_wanted.ensures) in
     let least = lowest (processes j) (happened j) j.wish j.watch (at v) i (omega arith) odd c.loop-i.invariant in
-    elim c.match-next-wanted.branch [
+    elim c.match-next_wanted.branch [
       | in-Some w ↦
           let q = w.in-Some.ensures in
           subst (Told j v) (sym w.result-is)
@@ -58,8 +58,8 @@ loop-i-preserved c =
     let state = state_wanted (happened j) j.wish i in
     below_more (λ k. unwanted (happened j) j.wish j.watch (at v) k ≡ false) i c.loop-i.invariant
     (elim c.else-watches.branch [
-      | else-watches-via-then-watches+else-not-is-wanted w ↦
-          ap (λ b. b && not (state (at v i))) (sym w.if-watches.ensures) ∙ ap (λ x. not (state x)) (sym height) ∙ ap not (sym w.if-not-is-wanted.ensures)
+      | else-watches-via-then-watches+else-not-is_wanted w ↦
+          ap (λ b. b && not (state (at v i))) (sym w.if-watches.ensures) ∙ ap (λ x. not (state x)) (sym height) ∙ ap not (sym w.if-not-is_wanted.ensures)
       | else-watches-via-else-watches w ↦ ap (λ b. b && not (state (at v i))) (sym w.if-watches.ensures)
     ])
 
@@ -67,5 +67,5 @@ pub returns : goal.returns
 returns c =
     let j = c.args.self.now in
     let v = c.args.v.now in
-    let inside = beyond_within (processes j) (happened j) (at v) (sym c.if-is-beyond.ensures) in
+    let inside = beyond_within (processes j) (happened j) (at v) (sym c.if-is_beyond.ensures) in
     told j v Holds (watched.WatchedSays.all (record { within = inside; wanted = λ i lt w. settled (happened j) j.wish j.watch (at v) i (c.loop-i.invariant i (omega arith)) w }))

@@ -8,8 +8,8 @@ use Rattle.gates.proofs.orders.Orders.plain.Goals as goal
 each : (P : List ℕ → Type 0) → P line → (i : ℕ) → i < most → P (get_or (replicate most line) i [])
 each P here i l = subst P (sym (get_or-replicate most i line [] l)) here
 
-pub invariant-of-result : goal.invariant-of-result
-invariant-of-result c =
+pub invariant_of-result : goal.invariant_of-result
+invariant_of-result c =
     let n = c.args.count in
     let rows : (i : ℕ) → i < n → Sound n (get_or (replicate most line) i []) (get_or (replicate most line) i []) =
     λ i l. each (λ r. Sound n r r) (line_sound n c.requires) i (omega (arith, c.requires)) in (

@@ -30,8 +30,8 @@ returns-then-x-n c =
 full : (n : ℕ) (order : ℕ → ℕ) (p : ℕ) → (row ranks : List ℕ) → p ≡ n → Filled n order p row ranks → Filled n order n row ranks
 full n order p row ranks e f = subst (λ k. Filled n order k row ranks) e f
 
-pub invariant-of-self : goal.invariant-of-self
-invariant-of-self c =
+pub invariant_of-self : goal.invariant_of-self
+invariant_of-self c =
     let o = c.args.self.now in
     let n = o.count in
     let i = c.args.i in

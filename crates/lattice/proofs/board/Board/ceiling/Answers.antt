@@ -6,13 +6,13 @@ use Rattle.lattice.proofs.Promised.{ceiling_taken, ceiling_unmoved}
 use Rattle.lattice.proofs.board.Board.ceiling.Goals as goal
 use Rattle.lattice.proofs.board.Board.ceiling.Goals.{then-at-top, else-at-top}
 
-pub returns-in-err-admit : goal.returns-in-err-admit
-returns-in-err-admit c =
-    let p = err_from_is_err_and c.from-residual.result c.from-residual.ensures.1 in rw (p.1, p.2) (ceiling_unmoved c.in-err-admit.ensures)
+pub returns-in_err-admit : goal.returns-in_err-admit
+returns-in_err-admit c =
+    let p = err_from_is_err_and c.from_residual.result c.from_residual.ensures.1 in rw (p.1, p.2) (ceiling_unmoved c.in_err-admit.ensures)
 
 pub returns : goal.returns
 returns c =
-    let acc = c.in-ok-admit.ensures in
+    let acc = c.in_ok-admit.ensures in
     let p = c.args.place in
     let top = c.args.self.now.ceilings in
     let low = c.put.new.self in

@@ -6,18 +6,18 @@ use Rattle.lattice.proofs.Promised.{floor_taken, floor_unmoved}
 use Rattle.lattice.proofs.board.Board.floor.Goals as goal
 use Rattle.lattice.proofs.board.Board.floor.Goals.{then-after-at, else-after-at+then-after-before, else-after-at+else-after-before}
 
-pub returns-in-err-admit : goal.returns-in-err-admit
-returns-in-err-admit c =
-    let p = err_from_is_err_and c.from-residual.result c.from-residual.ensures.1 in rw (p.1, p.2) (floor_unmoved c.in-err-admit.ensures)
+pub returns-in_err-admit : goal.returns-in_err-admit
+returns-in_err-admit c =
+    let p = err_from_is_err_and c.from_residual.result c.from_residual.ensures.1 in rw (p.1, p.2) (floor_unmoved c.in_err-admit.ensures)
 
-pub invariant-of-self : goal.invariant-of-self
-invariant-of-self c =
+pub invariant_of-self : goal.invariant_of-self
+invariant_of-self c =
     let least : at c.args.self.now.vector c.args.place ≤ c.max-after.result = search rules in
-    (omega (arith, set_sum c.args.self.now.vector c.put.new.self c.args.place c.max-after.result c.in-ok-admit.ensures.0 c.put.ensures), tt)
+    record { counted = omega (arith, set_sum c.args.self.now.vector c.put.new.self c.args.place c.max-after.result c.in_ok-admit.ensures.0 c.put.ensures) }
 
 pub returns : goal.returns
 returns c =
-    let acc = c.in-ok-admit.ensures in
+    let acc = c.in_ok-admit.ensures in
     let p = c.args.place in
     let h = c.args.height in
     let v = c.args.self.now.vector in

@@ -52,8 +52,8 @@ put-requires g c =
     let lt = (g.met.C.Condition.lawful c.args.condition.now).place _ _ _ (sym c.in-Lift.ensures) in
     (lt, omega (arith, c.loop-self.self.ceilings.bounded c.in-Lift.place lt))
 
-pub overflow-add-self : goal.overflow-add-self
-overflow-add-self g c = omega (arith, total_bound c.loop-self.self.vector, c.loop-self.self.counted)
+pub overflow_add-self : goal.overflow_add-self
+overflow_add-self g c = omega (arith, total_bound c.loop-self.self.vector, c.loop-self.self.counted)
 
 -- each lift adds to the sum of the heights
 rises : (g : given.Over) (c : After-put g) → sum c.loop-self.self.vector.heights < sum c.put.new.self.heights
@@ -62,8 +62,8 @@ rises g c =
     let lifted = sym c.in-Lift.ensures in
     omega (arith, laws.rises _ _ _ lifted, set_sum c.loop-self.self.vector c.put.new.self c.in-Lift.place c.in-Lift.height (laws.place _ _ _ lifted) c.put.ensures)
 
-pub invariant-of-self-in-Lift : goal.invariant-of-self-in-Lift
-invariant-of-self-in-Lift g c = (omega (arith, rises g c, c.loop-self.self.counted), tt)
+pub invariant_of-self-in-Lift : goal.invariant_of-self-in-Lift
+invariant_of-self-in-Lift g c = record { counted = omega (arith, rises g c, c.loop-self.self.counted) }
 
 pub loop-self-smaller : goal.loop-self-smaller
 loop-self-smaller g c = omega (arith, rises g (goal.at.loop-self-smaller g c).After-put, total_bound c.put.new.self)

@@ -6,7 +6,7 @@ use Rattle.trace.specs.Growth.Refused.{full, no_process}
 use Rattle.trace.specs.Growth.BreaksMessages.{unsent, misdirected, received_again}
 use Rattle.trace.proofs.Judging.{ill_sent, sent_twice, ill_received, fits_local, fits_send, fits_receive, some_sender, no_sender, some_receiver, no_receipt, names_send}
 use Rattle.trace.proofs.trace.Trace.judge.Goals as goal
-use Rattle.trace.proofs.trace.Trace.judge.Goals.{then-to-self-via-then-to-self, then-to-self-via-else-to-self+then-to-event, then-not-names-via-then-not-names, then-not-names-via-else-not-names+then-is-some-2}
+use Rattle.trace.proofs.trace.Trace.judge.Goals.{then-to-self-via-then-to-self, then-to-self-via-else-to-self+then-to-event, then-not-names-via-then-not-names, then-not-names-via-else-not-names+then-is_some-2}
 
 pub returns-then-len-ge-LONGEST : goal.returns-then-len-ge-LONGEST
 returns-then-len-ge-LONGEST c = let t = c.args.self.now in full (omega (arith, t.short, t.events.ok.0, c.len.ensures))
@@ -24,18 +24,18 @@ returns-then-to-self c =
       | then-to-self-via-else-to-self+then-to-event w ↦ inr w.if-to-event.true
     ])
 
-pub returns-then-is-some : goal.returns-then-is-some
-returns-then-is-some c =
+pub returns-then-is_some : goal.returns-then-is_some
+returns-then-is_some c =
     let t = c.args.self.now in
     let room : length (events t) < 1024 = omega (arith, t.events.ok.0, c.len.ensures) in
-    let s = some_sender t c.in-Send.message c.sender.result c.sender.ensures (sym c.is-some.ensures ∙ c.if-is-some.true) in
+    let s = some_sender t c.in-Send.message c.sender.result c.sender.ensures (sym c.is_some.ensures ∙ c.if-is_some.true) in
     sent_twice t.n (events t) c.args.event.now room c.if-event-self.false c.in-Send.to c.in-Send.message c.in-Send.is c.if-to-self.false c.if-to-event.false s.0 s.1
 
-pub returns-in-default : goal.returns-in-default
-returns-in-default c =
+pub returns-in_default : goal.returns-in_default
+returns-in_default c =
     let t = c.args.self.now in
     let room : length (events t) < 1024 = omega (arith, t.events.ok.0, c.len.ensures) in
-    ill_received t.n (events t) c.args.event.now room c.if-event-self.false c.in-Receive.message c.in-Receive.is (unsent c.in-default.ensures)
+    ill_received t.n (events t) c.args.event.now room c.if-event-self.false c.in-Receive.message c.in-Receive.is (unsent c.in_default.ensures)
 
 pub returns-then-not-names : goal.returns-then-not-names
 returns-then-not-names c =
@@ -47,8 +47,8 @@ returns-then-not-names c =
     ill_received t.n (events t) c.args.event.now room c.if-event-self.false c.in-Receive.message c.in-Receive.is
     (elim c.then-not-names.branch [
       | then-not-names-via-then-not-names w ↦ misdirected s.0 s.1 (eqb-false s.0.to p (sym named ∙ sym c.names.ensures ∙ w.if-not-names.true))
-      | then-not-names-via-else-not-names+then-is-some-2 w ↦
-          let r = some_receiver t c.in-Receive.message w.receiver.result w.receiver.ensures (sym w.is-some-else-not-names.ensures ∙ w.if-is-some-2.true) in
+      | then-not-names-via-else-not-names+then-is_some-2 w ↦
+          let r = some_receiver t c.in-Receive.message w.receiver.result w.receiver.ensures (sym w.is_some-else-not-names.ensures ∙ w.if-is_some-2.true) in
           received_again r.0 r.1
     ])
 
@@ -58,15 +58,15 @@ returns-in-Local c =
     let room : length (events t) < 1024 = omega (arith, t.events.ok.0, c.len.ensures) in
     fits_local t.n (events t) c.args.event.now room c.if-event-self.false c.in-Local.is
 
-pub returns-else-is-some : goal.returns-else-is-some
-returns-else-is-some c =
+pub returns-else-is_some : goal.returns-else-is_some
+returns-else-is_some c =
     let t = c.args.self.now in
     let room : length (events t) < 1024 = omega (arith, t.events.ok.0, c.len.ensures) in
-    let none = no_sender t c.in-Send.message c.sender.result c.sender.ensures (sym c.is-some.ensures ∙ c.if-is-some.false) in
+    let none = no_sender t c.in-Send.message c.sender.result c.sender.ensures (sym c.is_some.ensures ∙ c.if-is_some.false) in
     fits_send t.n (events t) c.args.event.now room c.if-event-self.false c.in-Send.to c.in-Send.message c.in-Send.is c.if-to-self.false c.if-to-event.false none
 
-pub returns-else-is-some-2 : goal.returns-else-is-some-2
-returns-else-is-some-2 c =
+pub returns-else-is_some-2 : goal.returns-else-is_some-2
+returns-else-is_some-2 c =
     let t = c.args.self.now in
     let es = events t in
     let ev = c.args.event.now in
@@ -78,6 +78,6 @@ returns-else-is-some-2 c =
     λ x same.
     let at = t.sent_once x s.0 (same ∙ sym s.1) ∙ s.2 in
     eqb-true x.to ev.process (sym (names_send es x c.in-Some.sent ev.process at) ∙ sym c.names.ensures ∙ c.if-not-names.false) in
-    let none = no_receipt t m c.receiver.result c.receiver.ensures (sym c.is-some-else-not-names.ensures ∙ c.if-is-some-2.false) in
+    let none = no_receipt t m c.receiver.result c.receiver.ensures (sym c.is_some-else-not-names.ensures ∙ c.if-is_some-2.false) in
     let r = fits_receive t.n es ev room c.if-event-self.false m c.in-Receive.is s.0 s.1 named none in
     (r.0, ap (λ (e : ℕ). Some e) f.0 ∙ r.1)

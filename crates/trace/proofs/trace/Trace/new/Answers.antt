@@ -5,20 +5,20 @@ use Rattle.trace.proofs.Sources.{answers_from}
 use Rattle.trace.proofs.Tables.{whole_none}
 use Rattle.trace.proofs.trace.Trace.new.Goals as goal
 
-pub returns-in-err-vec-2 : goal.returns-in-err-vec-2
-returns-in-err-vec-2 c = let p = err_from_is_err_and c.from-residual-in-err-vec-2.result c.from-residual-in-err-vec-2.ensures.1 in rw p.1 tt
+pub returns-in_err-vec-2 : goal.returns-in_err-vec-2
+returns-in_err-vec-2 c = let p = err_from_is_err_and c.from_residual-in_err-vec-2.result c.from_residual-in_err-vec-2.ensures.1 in rw p.1 tt
 
-pub returns-in-err-vec-3 : goal.returns-in-err-vec-3
-returns-in-err-vec-3 c = let p = err_from_is_err_and c.from-residual-in-err-vec-3.result c.from-residual-in-err-vec-3.ensures.1 in rw p.1 tt
+pub returns-in_err-vec-3 : goal.returns-in_err-vec-3
+returns-in_err-vec-3 c = let p = err_from_is_err_and c.from_residual-in_err-vec-3.result c.from_residual-in_err-vec-3.ensures.1 in rw p.1 tt
 
-pub invariant-of-result : goal.invariant-of-result
-invariant-of-result c =
-    let es = c.in-ok-with-capacity.field-0 in
-    let cs = c.in-ok-with-capacity-2.field-0 in
-    let e = c.in-ok-with-capacity.ensures in
-    let d = c.in-ok-with-capacity-2.ensures in
+pub invariant_of-result : goal.invariant_of-result
+invariant_of-result c =
+    let es = c.in_ok-with_capacity.field-0 in
+    let cs = c.in_ok-with_capacity-2.field-0 in
+    let e = c.in_ok-with_capacity.ensures in
+    let d = c.in_ok-with_capacity-2.ensures in
     let w =
-    whole_none 0 (vec_items es) (vec_items c.in-ok-vec.field-0) (vec_items c.in-ok-vec-2.field-0) (vec_items c.in-ok-vec-3.field-0)
+    whole_none 0 (vec_items es) (vec_items c.in_ok-vec.field-0) (vec_items c.in_ok-vec-2.field-0) (vec_items c.in_ok-vec-3.field-0)
     (rows (vec_items cs)) e.items (ap rows d.items) in
     let v = w.valid in (
       omega arith,
@@ -27,7 +27,7 @@ invariant-of-result c =
         (
           (e.capacity, d.capacity),
           (
-            (refl, c.in-ok-vec.ensures.made.1, c.in-ok-vec-2.ensures.made.1, c.in-ok-vec-3.ensures.made.1),
+            (refl, c.in_ok-vec.ensures.made.1, c.in_ok-vec-2.ensures.made.1, c.in_ok-vec-3.ensures.made.1),
             (
               v.process,
               (

@@ -14,11 +14,11 @@ small t i h pos le = (omega (arith, process_of t.n (events t) (valid t) i (omega
 within : (t : Trace) (i h : ℕ) → (h ≡ 0 → ⊥) → h ≤ total (events t) i → i * 1024 + h - 1 < 16384
 within t i h pos le = let s = small t i h pos le in omega (arith, s.0, s.1)
 
-pub overflow-mul-process : goal.overflow-mul-process
-overflow-mul-process c = let s = small c.args.self.now c.args.process c.args.number c.if-number-eq0.false (omega (arith, c.total.ensures)) in omega (arith, s.0)
+pub overflow_mul-process : goal.overflow_mul-process
+overflow_mul-process c = let s = small c.args.self.now c.args.process c.args.number c.if-number-eq0.false (omega (arith, c.total.ensures)) in omega (arith, s.0)
 
-pub overflow-add-process : goal.overflow-add-process
-overflow-add-process c = let s = small c.args.self.now c.args.process c.args.number c.if-number-eq0.false (omega (arith, c.total.ensures)) in omega (arith, s.0, s.1)
+pub overflow_add-process : goal.overflow_add-process
+overflow_add-process c = let s = small c.args.self.now c.args.process c.args.number c.if-number-eq0.false (omega (arith, c.total.ensures)) in omega (arith, s.0, s.1)
 
 pub index-requires : goal.index-requires
 index-requires c =

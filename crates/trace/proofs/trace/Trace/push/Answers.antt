@@ -11,41 +11,41 @@ use Rattle.trace.proofs.Traces.{valid, whole, push_refused}
 use Rattle.trace.proofs.trace.Trace.push.Goals as goal
 use Rattle.trace.proofs.trace.Trace.push.Goals.{in-Local, in-Send, in-Receive}
 
-pub returns-in-err-sent : goal.returns-in-err-sent
-returns-in-err-sent c =
+pub returns-in_err-sent : goal.returns-in_err-sent
+returns-in_err-sent c =
     let t = c.args.self.now in
     let ev = c.args.event in
-    let p = err_from_is_err_and c.from-residual.result c.from-residual.ensures.1 in
-    subst (λ r. Pushed t ev r t) (sym p.1) (push_refused t ev p.0 (subst (Refused t.n (events t) ev) (sym p.2) c.in-err-sent.ensures))
+    let p = err_from_is_err_and c.from_residual.result c.from_residual.ensures.1 in
+    subst (λ r. Pushed t ev r t) (sym p.1) (push_refused t ev p.0 (subst (Refused t.n (events t) ev) (sym p.2) c.in_err-sent.ensures))
 
 pub tick-clock-requires : goal.tick-clock-requires
 tick-clock-requires c =
     let t = c.args.self.now in
-    let f = c.in-ok-sent.ensures in
-    (f.0.process, sent_within t.n (events t) c.args.event f.0 c.in-ok-sent.sent f.1, f.0.room)
+    let f = c.in_ok-sent.ensures in
+    (f.0.process, sent_within t.n (events t) c.args.event f.0 c.in_ok-sent.sent f.1, f.0.room)
 
 pub index-mut-requires-2 : goal.index-mut-requires-2
 index-mut-requires-2 c =
     let t = c.args.self.now in
-    let s = slot_free t.n (events t) c.args.event t.counts t.few c.in-ok-sent.ensures.0 t.counted in
+    let s = slot_free t.n (events t) c.args.event t.counts t.few c.in_ok-sent.ensures.0 t.counted in
     omega (arith, s.0, s.1, t.sized.1)
 
-pub overflow-add-self : goal.overflow-add-self
-overflow-add-self c =
+pub overflow_add-self : goal.overflow_add-self
+overflow_add-self c =
     let t = c.args.self.now in
-    let s = slot_free t.n (events t) c.args.event t.counts t.few c.in-ok-sent.ensures.0 t.counted in
+    let s = slot_free t.n (events t) c.args.event t.counts t.few c.in_ok-sent.ensures.0 t.counted in
     omega (arith, s.1)
 
-pub push-reserved-requires-2 : goal.push-reserved-requires-2
-push-reserved-requires-2 c =
+pub push_reserved-requires-2 : goal.push_reserved-requires-2
+push_reserved-requires-2 c =
     let t = c.args.self.now in
-    omega (arith, clocks_long (events t) (vec_items t.clocks) t.clocked, t.clocks.ok.0, t.room.1, c.in-ok-sent.ensures.0.room)
+    omega (arith, clocks_long (events t) (vec_items t.clocks) t.clocked, t.clocks.ok.0, t.room.1, c.in_ok-sent.ensures.0.room)
 
-pub invariant-of-self : goal.invariant-of-self
-invariant-of-self c =
+pub invariant_of-self : goal.invariant_of-self
+invariant_of-self c =
     let t = c.args.self.now in
     let ev = c.args.event in
-    let f = c.in-ok-sent.ensures in
+    let f = c.in_ok-sent.ensures in
     let m = c.match-event.self in
     let sends = m.1.1.1.1.1.1.0 in
     let receives = m.1.1.1.1.1.1.1.0 in
@@ -69,20 +69,20 @@ invariant-of-self c =
           (ap (λ x. vec_items x.1.1.1.1.1.1.0) w.self-is)
           (ap (λ x. vec_items x.1.1.1.1.1.1.1.0) w.self-is)
     ] in
-    let clocks : rows (vec_items c.push-reserved-2.new.self) ≡ rows (vec_items t.clocks) ++ ticked (events t) ev.process (sent_by (events t) ev.action) ∷ [] =
-    ap rows c.push-reserved-2.ensures.items ∙ map_push (λ x. x.entries) (vec_items t.clocks) c.tick-clock.result
+    let clocks : rows (vec_items c.push_reserved-2.new.self) ≡ rows (vec_items t.clocks) ++ ticked (events t) ev.process (sent_by (events t) ev.action) ∷ [] =
+    ap rows c.push_reserved-2.ensures.items ∙ map_push (λ x. x.entries) (vec_items t.clocks) c.tick-clock.result
     ∙ ap (λ x. rows (vec_items t.clocks) ++ x ∷ []) (c.tick-clock.ensures ∙ ap (ticked (events t) ev.process) f.1) in
     let w =
     pushed t.n (events t) ev t.counts (vec_items t.places) (vec_items t.sends) (vec_items t.receives) (rows (vec_items t.clocks))
     t.few t.sized.0 (sym t.places.ok.0 ∙ t.sized.1) (whole t) f.0
-    c.len-at.result (vec_items c.push-reserved.new.self) (vec_items sends) (vec_items receives)
-    (rows (vec_items c.push-reserved-2.new.self)) at c.push-reserved.ensures.items noted clocks in
+    c.len-at.result (vec_items c.push_reserved.new.self) (vec_items sends) (vec_items receives)
+    (rows (vec_items c.push_reserved-2.new.self)) at c.push_reserved.ensures.items noted clocks in
     let v = w.valid in (
       t.few,
       (
         v.few,
         (
-          (omega (arith, t.room.0, c.push-reserved.ensures.capacity), omega (arith, t.room.1, c.push-reserved-2.ensures.capacity)),
+          (omega (arith, t.room.0, c.push_reserved.ensures.capacity), omega (arith, t.room.1, c.push_reserved-2.ensures.capacity)),
           (
             (
               length-set t.counts ev.process _ ∙ t.sized.0,
@@ -117,6 +117,6 @@ invariant-of-self c =
 pub returns : goal.returns
 returns c =
     let t = c.args.self.now in
-    let items = c.push-reserved.ensures.items in
-    let v = grown_as t.n (events t) c.args.event (valid t) c.in-ok-sent.ensures.0 (vec_items c.push-reserved.new.self) items in
+    let items = c.push_reserved.ensures.items in
+    let v = grown_as t.n (events t) c.args.event (valid t) c.in_ok-sent.ensures.0 (vec_items c.push_reserved.new.self) items in
     record { outcome = (refl, items, v); exactly = λ _. tt }

@@ -19,8 +19,8 @@ returns-in-Receive c =
     } in
     (s, refl, refl)
 
-pub returns-in-default : goal.returns-in-default
-returns-in-default c = λ s same.
+pub returns-in_default : goal.returns-in_default
+returns-in_default c = λ s same.
     let t = c.args.self.now in
     let f = c.in-Some.ensures.lookup in
     let a = action_read t c.deref.result.now c.index.result.now c.in-Some.event.now c.deref.ensures.value f.0 f.1 in

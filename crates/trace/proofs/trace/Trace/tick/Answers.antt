@@ -7,7 +7,7 @@ use Rattle.trace.specs.Growth.{events, taken_in}
 use Rattle.trace.proofs.Traces.{valid}
 use Rattle.trace.proofs.Tables.{total_few, latest_at, latest_none, clocks_long, clock_read}
 use Rattle.trace.proofs.trace.Trace.tick.Goals as goal
-use Rattle.trace.proofs.trace.Trace.tick.Goals.{in-Some, in-None, in-Some-sent, in-default}
+use Rattle.trace.proofs.trace.Trace.tick.Goals.{in-Some, in-None, in-Some-sent, in_default}
 
 pub index-requires : goal.index-requires
 index-requires c =
@@ -20,8 +20,8 @@ index-requires-in-Some-sent c =
     let lt = MatchOption-at_some (Unit {0}) (λ (e : ℕ). e < length (events t)) c.in-Some-sent.sent c.in-Some-sent.is c.requires.1 in
     omega (arith, lt, clocks_long (events t) (vec_items t.clocks) t.clocked, t.clocks.ok.0)
 
-pub overflow-add-clock : goal.overflow-add-clock
-overflow-add-clock c =
+pub overflow_add-clock : goal.overflow_add-clock
+overflow_add-clock c =
     let t = c.args.self.now in
     omega (arith, t.counted c.args.process (omega (arith, c.requires.0, t.few)), total_few t.n (events t) (valid t) c.args.process)
 
@@ -51,6 +51,6 @@ returns c =
           ∙ ap (λ x. merged x w.index-in-Some-sent.result.now.entries) base
           ∙ ap (merged (latest es cs i (length es))) (clock_read es (vec_items t.clocks) e w.index-in-Some-sent.result.now t.clocked lt w.index-in-Some-sent.ensures)
           ∙ ap (λ o. taken_in cs o (latest es cs i (length es))) (sym w.in-Some-sent.is)
-      | in-default w ↦ ap (λ x. x.entries) w.clock-is ∙ base ∙ ap (λ o. taken_in cs o (latest es cs i (length es))) (sym w.in-default.is)
+      | in_default w ↦ ap (λ x. x.entries) w.clock-is ∙ base ∙ ap (λ o. taken_in cs o (latest es cs i (length es))) (sym w.in_default.is)
     ] in
     ap (λ x. set x i (get_or t.counts i 0 + 1)) met ∙ ap (λ (k : ℕ). set (taken_in cs c.args.sent (latest es cs i (length es))) i (k + 1)) counted

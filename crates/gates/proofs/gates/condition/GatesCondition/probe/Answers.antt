@@ -18,7 +18,7 @@ pub returns-then-free-present : goal.returns-then-free-present
 returns-then-free-present c =
     let s = sides c.args.self.now in
     let h = at c.args.v.now in
-    let x = says_lift s h (λ k l. search rules) c.loop-i.i c.free-position-free.result (search rules) (λ k l. search rules) (search rules) (search rules) in
+    let x = says_lift s h (λ k l. search rules) c.loop-i.i c.free_position-free.result (search rules) (λ k l. search rules) (search rules) (search rules) in
     record { is = sym (says_is s h _ x); says = x }
 
 pub returns : goal.returns
