@@ -32,19 +32,12 @@ invariant_of-self c =
     let receives : c.args.receiver < j.trace.n = omega arith in
     let apart : c.args.receiver ≡ c.args.sender → ⊥ = λ e. omega arith in
     let room : 8 ≤ vec_capacity c.push_reserved.new.self = omega (arith, c.push_reserved.ensures.capacity, j.room) in
-    let few : length (vec_items c.push_reserved.new.self) ≤ 8 = rw items (omega (arith, length_push (listed j) new, j.channels.ok.0)) in (
-      room,
-      (
-        few,
-        (
-          j.watched,
-          (
-            rw items (places_push (λ x. x.sender < j.trace.n) (listed j) new none j.senders sends),
-            (
-              rw items (places_push (λ x. x.receiver < j.trace.n) (listed j) new none j.receivers receives),
-              (rw items (places_push (λ x. x.receiver ≡ x.sender → ⊥) (listed j) new none j.apart apart), tt),
-            ),
-          ),
-        ),
-      ),
-    )
+    let few : length (vec_items c.push_reserved.new.self) ≤ 8 = rw items (omega (arith, length_push (listed j) new, j.channels.ok.0)) in
+    record {
+      room = room;
+      listed = few;
+      watched = j.watched;
+      senders = rw items (places_push (λ x. x.sender < j.trace.n) (listed j) new none j.senders sends);
+      receivers = rw items (places_push (λ x. x.receiver < j.trace.n) (listed j) new none j.receivers receives);
+      apart = rw items (places_push (λ x. x.receiver ≡ x.sender → ⊥) (listed j) new none j.apart apart);
+    }

@@ -12,25 +12,16 @@ pub invariant_of-result : goal.invariant_of-result
 invariant_of-result c =
     let n = c.args.count in
     let rows : (i : ℕ) → i < n → Sound n (get_or (replicate most line) i []) (get_or (replicate most line) i []) =
-    λ i l. each (λ r. Sound n r r) (line_sound n c.requires) i (omega (arith, c.requires)) in (
-      c.requires,
-      (
-        (refl, refl),
-        (
-          (λ i l. each (λ r. (length r ≡ most) × (length r ≡ most)) (refl, refl) i l),
-          (
-            (λ i p h. (rows i h.0).whole.within p h.1),
-            (
-              (λ i p h. (rows i h.0).whole.once p h.1),
-              (
-                (λ i x h. (rows i h.0).whole.every x h.1),
-                ((λ i x h. (rows i h.0).ranked x h.1), tt),
-              ),
-            ),
-          ),
-        ),
-      ),
-    )
+    λ i l. each (λ r. Sound n r r) (line_sound n c.requires) i (omega (arith, c.requires)) in
+    record {
+      few = c.requires;
+      tall = (refl, refl);
+      wide = λ i l. each (λ r. (length r ≡ most) × (length r ≡ most)) (refl, refl) i l;
+      within = λ i p h. (rows i h.0).whole.within p h.1;
+      once = λ i p h. (rows i h.0).whole.once p h.1;
+      every = λ i x h. (rows i h.0).whole.every x h.1;
+      ranked = λ i x h. (rows i h.0).ranked x h.1;
+    }
 
 pub returns : goal.returns
 returns c = (refl, λ i p li lp. each (λ r. get_or r p 0 ≡ p) (line_at p (omega (arith, c.requires))) i (omega (arith, c.requires)))

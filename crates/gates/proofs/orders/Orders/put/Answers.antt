@@ -42,25 +42,16 @@ invariant_of-self c =
     let li' : i < length o.ranks = omega (arith, o.few, o.tall.1) in
     let rows : (j : ℕ) → j < n → Sound n (get_or (set o.rows i row) j []) (get_or (set o.ranks i ranks) j []) =
     λ j l. put_each (Sound n) o.rows o.ranks i row ranks li li' (sound n (λ p. get_or c.args.order.now p 0) row ranks f) j
-    (record { whole = row_ranked o j l; ranked = λ x h. o.ranked j x (l, h) }) in (
-      o.few,
-      (
-        (length-set o.rows i row ∙ o.tall.0, length-set o.ranks i ranks ∙ o.tall.1),
-        (
-          (λ j l. put_each (λ r s. (length r ≡ most) × (length s ≡ most)) o.rows o.ranks i row ranks li li' (f.wide, f.long) j (o.wide j l)),
-          (
-            (λ j p h. (rows j h.0).whole.within p h.1),
-            (
-              (λ j p h. (rows j h.0).whole.once p h.1),
-              (
-                (λ j x h. (rows j h.0).whole.every x h.1),
-                ((λ j x h. (rows j h.0).ranked x h.1), tt),
-              ),
-            ),
-          ),
-        ),
-      ),
-    )
+    (record { whole = row_ranked o j l; ranked = λ x h. o.ranked j x (l, h) }) in
+    record {
+      few = o.few;
+      tall = (length-set o.rows i row ∙ o.tall.0, length-set o.ranks i ranks ∙ o.tall.1);
+      wide = λ j l. put_each (λ r s. (length r ≡ most) × (length s ≡ most)) o.rows o.ranks i row ranks li li' (f.wide, f.long) j (o.wide j l);
+      within = λ j p h. (rows j h.0).whole.within p h.1;
+      once = λ j p h. (rows j h.0).whole.once p h.1;
+      every = λ j x h. (rows j h.0).whole.every x h.1;
+      ranked = λ j x h. (rows j h.0).ranked x h.1;
+    }
 
 pub returns : goal.returns
 returns c =

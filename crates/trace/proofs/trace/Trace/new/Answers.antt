@@ -20,34 +20,21 @@ invariant_of-result c =
     let w =
     whole_none 0 (vec_items es) (vec_items c.in_ok-vec.field-0) (vec_items c.in_ok-vec-2.field-0) (vec_items c.in_ok-vec-3.field-0)
     (rows (vec_items cs)) e.items (ap rows d.items) in
-    let v = w.valid in (
-      omega arith,
-      (
-        v.few,
-        (
-          (e.capacity, d.capacity),
-          (
-            (refl, c.in_ok-vec.ensures.made.1, c.in_ok-vec-2.ensures.made.1, c.in_ok-vec-3.ensures.made.1),
-            (
-              v.process,
-              (
-                v.receiver,
-                (
-                  v.other,
-                  (
-                    v.sent_once,
-                    (
-                      v.received_once,
-                      (
-                        answers_from 0 (vec_items es) v,
-                        (w.counted, (w.indexed, (w.sends_at, (w.receives_at, (w.clocked, tt))))),
-                      ),
-                    ),
-                  ),
-                ),
-              ),
-            ),
-          ),
-        ),
-      ),
-    )
+    let v = w.valid in
+    record {
+      few = omega arith;
+      short = v.few;
+      room = (e.capacity, d.capacity);
+      sized = (refl, c.in_ok-vec.ensures.made.1, c.in_ok-vec-2.ensures.made.1, c.in_ok-vec-3.ensures.made.1);
+      process = v.process;
+      receiver = v.receiver;
+      other = v.other;
+      sent_once = v.sent_once;
+      received_once = v.received_once;
+      answers = answers_from 0 (vec_items es) v;
+      counted = w.counted;
+      indexed = w.indexed;
+      sends_at = w.sends_at;
+      receives_at = w.receives_at;
+      clocked = w.clocked;
+    }

@@ -77,42 +77,29 @@ invariant_of-self c =
     t.few t.sized.0 (sym t.places.ok.0 ∙ t.sized.1) (whole t) f.0
     c.len-at.result (vec_items c.push_reserved.new.self) (vec_items sends) (vec_items receives)
     (rows (vec_items c.push_reserved-2.new.self)) at c.push_reserved.ensures.items noted clocks in
-    let v = w.valid in (
-      t.few,
-      (
-        v.few,
-        (
-          (omega (arith, t.room.0, c.push_reserved.ensures.capacity), omega (arith, t.room.1, c.push_reserved-2.ensures.capacity)),
-          (
-            (
+    let v = w.valid in
+    record {
+      few = t.few;
+      short = v.few;
+      room = (omega (arith, t.room.0, c.push_reserved.ensures.capacity), omega (arith, t.room.1, c.push_reserved-2.ensures.capacity));
+      sized = (
               length-set t.counts ev.process _ ∙ t.sized.0,
               t.sized.1,
               sends.ok.0 ∙ noted.sends_long ∙ sym t.sends.ok.0 ∙ t.sized.2,
               receives.ok.0 ∙ noted.receives_long ∙ sym t.receives.ok.0 ∙ t.sized.3,
-            ),
-            (
-              v.process,
-              (
-                v.receiver,
-                (
-                  v.other,
-                  (
-                    v.sent_once,
-                    (
-                      v.received_once,
-                      (
-                        answers_from t.n _ v,
-                        (w.counted, (w.indexed, (w.sends_at, (w.receives_at, (w.clocked, tt))))),
-                      ),
-                    ),
-                  ),
-                ),
-              ),
-            ),
-          ),
-        ),
-      ),
-    )
+            );
+      process = v.process;
+      receiver = v.receiver;
+      other = v.other;
+      sent_once = v.sent_once;
+      received_once = v.received_once;
+      answers = answers_from t.n _ v;
+      counted = w.counted;
+      indexed = w.indexed;
+      sends_at = w.sends_at;
+      receives_at = w.receives_at;
+      clocked = w.clocked;
+    }
 
 pub returns : goal.returns
 returns c =
