@@ -22,10 +22,10 @@ pub tick-clock-requires : goal.tick-clock-requires
 tick-clock-requires c =
     let t = c.args.self.now in
     let f = c.in_ok-sent.ensures in
-    (f.0.process, sent_within t.n (events t) c.args.event f.0 c.in_ok-sent.sent f.1, f.0.room)
+    (record { process_lt_n = f.0.process; within = sent_within t.n (events t) c.args.event f.0 c.in_ok-sent.sent f.1; self_len_bound = f.0.room })
 
-pub index-mut-requires-2 : goal.index-mut-requires-2
-index-mut-requires-2 c =
+pub index_mut-requires-2 : goal.index_mut-requires-2
+index_mut-requires-2 c =
     let t = c.args.self.now in
     let s = slot_free t.n (events t) c.args.event t.counts t.few c.in_ok-sent.ensures.0 t.counted in
     omega (arith, s.0, s.1, t.sized.1)
@@ -83,11 +83,11 @@ invariant_of-self c =
       short = v.few;
       room = (omega (arith, t.room.0, c.push_reserved.ensures.capacity), omega (arith, t.room.1, c.push_reserved-2.ensures.capacity));
       sized = (
-              length-set t.counts ev.process _ ∙ t.sized.0,
-              t.sized.1,
-              sends.ok.0 ∙ noted.sends_long ∙ sym t.sends.ok.0 ∙ t.sized.2,
-              receives.ok.0 ∙ noted.receives_long ∙ sym t.receives.ok.0 ∙ t.sized.3,
-            );
+        length-set t.counts ev.process _ ∙ t.sized.0,
+        t.sized.1,
+        sends.ok.0 ∙ noted.sends_long ∙ sym t.sends.ok.0 ∙ t.sized.2,
+        receives.ok.0 ∙ noted.receives_long ∙ sym t.receives.ok.0 ∙ t.sized.3,
+      );
       process = v.process;
       receiver = v.receiver;
       other = v.other;

@@ -27,8 +27,8 @@ returns-in_default c = λ s same.
     let there = received_there t c.args.message c.index.result.now c.ranges.message.fits c.index.ensures s same in
     c.if-received-message.false (same_received c.in-Receive.received c.args.message (sym c.in-Receive.is ∙ a.1 ∙ there))
 
-pub returns-in-default·2 : goal.returns-in-default·2
-returns-in-default·2 c = λ s same.
+pub returns-in_default-2 : goal.returns-in_default-2
+returns-in_default-2 c = λ s same.
     let t = c.args.self.now in
     let f = c.in-Some.ensures.lookup in
     let a = action_read t c.deref.result.now c.index.result.now c.in-Some.event.now c.deref.ensures.value f.0 f.1 in

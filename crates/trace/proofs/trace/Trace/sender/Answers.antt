@@ -29,8 +29,8 @@ returns-in_default c = λ s same.
     let there = sent_there t c.args.message c.index.result.now c.ranges.message.fits c.index.ensures s same in
     c.if-sent-message.false (same_message c.in-Send.to c.in-Send.sent s.to c.args.message (sym c.in-Send.is ∙ a.1 ∙ there))
 
-pub returns-in-default·2 : goal.returns-in-default·2
-returns-in-default·2 c = λ s same.
+pub returns-in_default-2 : goal.returns-in_default-2
+returns-in_default-2 c = λ s same.
     let t = c.args.self.now in
     let f = c.in-Some.ensures.lookup in
     let a = action_read t c.deref.result.now c.index.result.now c.in-Some.event.now c.deref.ensures.value f.0 f.1 in

@@ -17,13 +17,13 @@ index-requires c =
 pub index-requires-in-Some-sent : goal.index-requires-in-Some-sent
 index-requires-in-Some-sent c =
     let t = c.args.self.now in
-    let lt = MatchOption-at_some (Unit {0}) (λ (e : ℕ). e < length (events t)) c.in-Some-sent.sent c.in-Some-sent.is c.requires.1 in
+    let lt = MatchOption-at_some (Unit {0}) (λ (e : ℕ). e < length (events t)) c.in-Some-sent.sent c.in-Some-sent.is c.requires.within in
     omega (arith, lt, clocks_long (events t) (vec_items t.clocks) t.clocked, t.clocks.ok.0)
 
 pub overflow_add-clock : goal.overflow_add-clock
 overflow_add-clock c =
     let t = c.args.self.now in
-    omega (arith, t.counted c.args.process (omega (arith, c.requires.0, t.few)), total_few t.n (events t) (valid t) c.args.process)
+    omega (arith, t.counted c.args.process (omega (arith, c.requires.process_lt_n, t.few)), total_few t.n (events t) (valid t) c.args.process)
 
 pub returns : goal.returns
 returns c =
@@ -31,7 +31,7 @@ returns c =
     let es = events t in
     let cs = mattern es (length es) in
     let i = c.args.process in
-    let counted = t.counted i (omega (arith, c.requires.0, t.few)) in
+    let counted = t.counted i (omega (arith, c.requires.process_lt_n, t.few)) in
     let base : c.match-nth.clock.entries ≡ latest es cs i (length es) =
     elim c.match-nth.branch [
       | in-Some w ↦
@@ -46,7 +46,7 @@ returns c =
     elim c.match-sent.branch [
       | in-Some-sent w ↦
           let e = w.in-Some-sent.sent in
-          let lt = MatchOption-at_some (Unit {0}) (λ (k : ℕ). k < length es) e w.in-Some-sent.is c.requires.1 in
+          let lt = MatchOption-at_some (Unit {0}) (λ (k : ℕ). k < length es) e w.in-Some-sent.is c.requires.within in
           ap (λ x. x.entries) w.clock-is ∙ w.merge.ensures
           ∙ ap (λ x. merged x w.index-in-Some-sent.result.now.entries) base
           ∙ ap (merged (latest es cs i (length es))) (clock_read es (vec_items t.clocks) e w.index-in-Some-sent.result.now t.clocked lt w.index-in-Some-sent.ensures)
