@@ -2,8 +2,8 @@ use Rattle.std.proofs.Common.{refl, ◌∙◌, rules}
 use Rattle.jobfile.proofs.Taking.{first_byte, missing_at}
 use Rattle.jobfile.proofs.fields.byte.Goals as goal
 
-pub returns-in-default : goal.returns-in-default
-returns-in-default c = missing_at _ _ _ _ _ _ _ c.in-default.ensures.cases.0 (c.total.ensures ∙ c.in-default.ensures.total)
+pub returns-in_default : goal.returns-in_default
+returns-in_default c = missing_at _ _ _ _ _ _ _ c.in_default.ensures.cases.0 (c.total.ensures ∙ c.in_default.ensures.total)
 
 pub returns : goal.returns
 returns c =

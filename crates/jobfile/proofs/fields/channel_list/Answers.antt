@@ -10,13 +10,13 @@ loop-init c = channels_none _ _ c.requires.0
 pub channel-requires : goal.channel-requires
 channel-requires c = omega (arith, c.loop.invariant.many, c.requires.1)
 
-pub returns-in-err-channel : goal.returns-in-err-channel
-returns-in-err-channel c =
-    let p = err_from_is_err_and c.from-residual.result c.from-residual.ensures.1 in
-    rw (p.1, p.2) (channels_fail c.loop.invariant _ c.loop-test.true c.in-err-channel.ensures)
+pub returns-in_err-channel : goal.returns-in_err-channel
+returns-in_err-channel c =
+    let p = err_from_is_err_and c.from_residual.result c.from_residual.ensures.1 in
+    rw (p.1, p.2) (channels_fail c.loop.invariant _ c.loop-test.true c.in_err-channel.ensures)
 
 pub loop-preserved : goal.loop-preserved
-loop-preserved c = channels_more c.loop.invariant _ _ c.in-ok-channel.ensures
+loop-preserved c = channels_more c.loop.invariant _ _ c.in_ok-channel.ensures
 
 pub returns : goal.returns
 returns c = subst (λ n. ChannelsRead n c.args.reader.now c.loop.reader c.args.job.now c.loop.job) (omega arith) c.loop.invariant

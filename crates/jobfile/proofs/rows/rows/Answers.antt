@@ -9,13 +9,13 @@ loop-i-init c = rows_none _ _ _ _ refl
 pub row-requires : goal.row-requires
 row-requires c = omega (arith, c.loop-i.invariant.count, c.loop-i-test.true, c.count-i-end.ensures)
 
-pub returns-in-err-row : goal.returns-in-err-row
-returns-in-err-row c =
-    let p = err_from_is_err_and c.from-residual.result c.from-residual.ensures.1 in
-    rw (p.1, p.2) (rows_break _ _ _ _ _ _ c.loop-i.invariant _ (omega (arith, c.loop-i.invariant.count, c.loop-i-test.true, c.count-i-end.ensures)) c.in-err-row.ensures)
+pub returns-in_err-row : goal.returns-in_err-row
+returns-in_err-row c =
+    let p = err_from_is_err_and c.from_residual.result c.from_residual.ensures.1 in
+    rw (p.1, p.2) (rows_break _ _ _ _ _ _ c.loop-i.invariant _ (omega (arith, c.loop-i.invariant.count, c.loop-i-test.true, c.count-i-end.ensures)) c.in_err-row.ensures)
 
 pub loop-i-preserved : goal.loop-i-preserved
-loop-i-preserved c = rows_more _ _ _ _ _ _ c.loop-i.invariant _ _ c.in-ok-row.ensures
+loop-i-preserved c = rows_more _ _ _ _ _ _ c.loop-i.invariant _ _ c.in_ok-row.ensures
 
 pub returns : goal.returns
 returns c = rows_done _ _ _ _ _ _ c.loop-i.invariant (omega (arith, c.loop-i.auto.i-end, c.loop-i-test.false, c.count-i-end.ensures))

@@ -11,8 +11,8 @@ pub returns-in-Err : goal.returns-in-Err
 returns-in-Err c =
     let e = c.in-Err.refusal in
     let outcome = c.in-Err.ensures in
-    answered c.args.file.now c.args.memory.now (text_of_refusal e) c.write-refusal.new.memory c.write-refusal.result _ c.read.new.self
-    (refused e outcome.outcome.1) c.write-refusal.ensures outcome
+    answered c.args.file.now c.args.memory.now (text_of_refusal e) c.write_refusal.new.memory c.write_refusal.result _ c.read.new.self
+    (refused e outcome.outcome.1) c.write_refusal.ensures outcome
 
 pub returns-in-Ok : goal.returns-in-Ok
 returns-in-Ok c =
@@ -24,5 +24,5 @@ returns-in-Ok c =
     let settled : Settled (JobHolds j) (reading board) = subst (λ holds. Settled holds (reading board)) same ran in
     let outcome = c.in-Ok.ensures in
     let (form, (good, is, held)) = outcome.outcome in
-    answered c.args.file.now c.args.memory.now (text_of_job j (reading board)) c.write-report.new.memory c.write-report.result _ j
-    (reports c.args.file.now j form good is held (reading board) settled) c.write-report.ensures outcome
+    answered c.args.file.now c.args.memory.now (text_of_job j (reading board)) c.write_report.new.memory c.write_report.result _ j
+    (reports c.args.file.now j form good is held (reading board) settled) c.write_report.ensures outcome

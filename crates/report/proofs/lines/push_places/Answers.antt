@@ -15,7 +15,7 @@ loop-place-preserved c =
     let shown = shown_by c.args.job.now c.args.vector.now in
     let place = c.loop-place.place in
     let start = written c.args.text.now in
-    added_then start (place_lines shown place) (place_line place (shown place)) c.loop-place.invariant c.push-place.ensures
+    added_then start (place_lines shown place) (place_line place (shown place)) c.loop-place.invariant c.push_place.ensures
     ∙ ap (λ (k : ℕ). added start (place_lines shown k)) (sym (add-one place))
 
 pub returns : goal.returns
