@@ -1,6 +1,6 @@
 #![tactic(auto)]
 
-pub mod gates;
+pub mod placings;
 #[cfg(test)]
 mod tests;
 pub mod traces;
