@@ -5,7 +5,7 @@ use Rattle.commands.specs.declared.command.Command.{Command}
 use Rattle.commands.specs.declared.command.Command.TheVariants.{Job, New, Floor, Ceiling, Run, Read, Probe, Clocks, Report}
 use Rattle.commands.specs.declared.command.Asked.{Asked}
 use Rattle.commands.specs.declared.command.Asked.TheVariants as asked
-use Rattle.commands.specs.Words.{words, Writes, Spells}
+use Rattle.commands.specs.Words.{words, Writes}
 
 -- the greatest numbers of 32 and of 64 bits
 abbrev pub most32 : ℕ

@@ -1,5 +1,5 @@
 -- The words of a line, and the numbers and bytes that words write. Assumes nothing.
-use Rattle.std.specs.Prelude.{◌≡◌, ℕ, ◌+◌, ◌-◌, ◌*◌, ◌<◌, ◌≤◌, min, Bool, true, false, cond, ◌&&◌, ◌||◌, List, [], ◌∷◌, ◌++◌, length, take, nat_le}
+use Rattle.std.specs.Prelude.{◌≡◌, ℕ, ◌+◌, ◌-◌, ◌*◌, ◌<◌, ◌≤◌, min, Bool, true, cond, ◌&&◌, ◌||◌, List, [], ◌∷◌, length, take, nat_le}
 
 -- blanks stand between words: the space and all that stands before it in ASCII
 abbrev pub is_blank : ℕ → Bool

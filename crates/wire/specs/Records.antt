@@ -1,5 +1,5 @@
 -- Records: events, as long as their payload is a part of the file, and the bytes of rows. Assumes nothing.
-use Rattle.std.specs.Prelude.{◌≡◌, ℕ, ◌-◌, ◌<◌, List, [], ◌∷◌, ◌++◌, length, ◌≢◌}
+use Rattle.std.specs.Prelude.{◌≡◌, ℕ, ◌-◌, ◌<◌, List, ◌∷◌, ◌++◌, length, ◌≢◌}
 use Rattle.refusal.specs.declared.Layer.TheVariants.{Record}
 use Rattle.refusal.specs.declared.Refusal.{Refusal}
 use Rattle.wire.specs.declared.record.Record.{Record as TheRecord}

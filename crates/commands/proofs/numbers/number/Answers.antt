@@ -20,4 +20,4 @@ pub loop-byte-preserved : goal.loop-byte-preserved
 loop-byte-preserved c = one_more c.loop-byte.invariant c.loop-byte-test.true (omega arith) (omega arith) (omega arith)
 
 pub returns : goal.returns
-returns c = let some = eqb-false _ 0 (sym c.if-is-empty.ensures) in all_read c.loop-byte.invariant (omega arith) c.loop-byte-test.false
+returns c = let some = eqb-false _ 0 (sym c.if-is_empty.ensures) in all_read c.loop-byte.invariant (omega arith) c.loop-byte-test.false

@@ -1,5 +1,5 @@
 use Rattle.commands.proofs.Numerals.{no_number}
 use Rattle.commands.proofs.tails.one_number.Goals as goal
 
-pub returns-in-default-number : goal.returns-in-default-number
-returns-in-default-number c = no_number c.in-Some.ensures c.args.most c.in-default-number.ensures
+pub returns-in_default-number : goal.returns-in_default-number
+returns-in_default-number c = no_number c.in-Some.ensures c.args.most c.in_default-number.ensures

@@ -11,11 +11,11 @@ returns-then-file-lt-FRAME c = kept (omega arith) (broken (omega arith))
 pub returns-then-file-ne-VERSION : goal.returns-then-file-ne-VERSION
 returns-then-file-ne-VERSION c = kept (omega arith) (kept (omega arith) (broken (omega arith)))
 
-pub returns-then-from-be-bytes-file : goal.returns-then-from-be-bytes-file
-returns-then-from-be-bytes-file c = kept (omega arith) (kept (omega arith) (kept (omega arith) (broken (omega arith))))
+pub returns-then-from_be_bytes-file : goal.returns-then-from_be_bytes-file
+returns-then-from_be_bytes-file c = kept (omega arith) (kept (omega arith) (kept (omega arith) (broken (omega arith))))
 
-pub returns-in-default : goal.returns-in-default
-returns-in-default c = kept (omega arith) (kept (omega arith) (kept (omega arith) (kept (omega arith) (broken (grind arith)))))
+pub returns-in_default : goal.returns-in_default
+returns-in_default c = kept (omega arith) (kept (omega arith) (kept (omega arith) (kept (omega arith) (broken (grind arith)))))
 
 pub returns-then-n-lt1 : goal.returns-then-n-lt1
 returns-then-n-lt1 c = kept (omega arith) (kept (omega arith) (kept (omega arith) (kept (omega arith) (kept (search rules) (broken (omega arith))))))

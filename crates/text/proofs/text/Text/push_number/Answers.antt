@@ -28,4 +28,4 @@ returns c =
     let made : List ℕ = set digits (start - 1) (48 + rest % 10) in
     let all = inv.5 ∙ digit_all rest start digits (omega arith) inv.1 (omega arith) in
     let part = between_to_end made (start - 1) 20 (omega (arith, length-set digits (start - 1) (48 + rest % 10))) in
-    c.push-bytes.ensures ∙ ap (added (written c.args.self.now)) (part ∙ sym all)
+    c.push_bytes.ensures ∙ ap (added (written c.args.self.now)) (part ∙ sym all)
