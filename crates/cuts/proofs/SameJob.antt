@@ -3,7 +3,6 @@ use Rattle.std.proofs.Common.{◌≡◌, ℕ, ◌^◌, ◌<◌, ◌≤◌, lengt
 use mathlib.Core.HLevel.{is_prop→PathP}
 use denote.Struct.Props.{props}
 use Rattle.std.specs.declared.alloc.Global.{Global}
-use Rattle.payload.specs.declared.wish.Wish.{Wish}
 use Rattle.trace.specs.declared.trace.Trace.{Trace}
 use Rattle.cuts.specs.declared.channel.Channel.{Channel}
 use Rattle.cuts.specs.declared.job.TraceJob.{TraceJob}

@@ -1,5 +1,5 @@
 -- Consistent cuts (Mattern; Chase and Garg): all that happened before an event of the cut is in it. Assumes nothing.
-use Rattle.std.specs.Prelude.{◌≡◌, ℕ, zero, suc, ◌<◌, ◌≤◌, max, Bool, cond, List, length, ◌==◌, nat_lt}
+use Rattle.std.specs.Prelude.{ℕ, zero, suc, ◌<◌, ◌≤◌, max, Bool, cond, List, length, ◌==◌, nat_lt}
 use Rattle.lattice.specs.First.{first}
 use Rattle.lattice.specs.declared.condition.Reply.{Reply}
 use Rattle.lattice.specs.declared.condition.Reply.TheVariants.{Holds, Lift, Never}

@@ -1,5 +1,5 @@
 -- Boards written out, and what follows from one list of calls for every such list. Assumes nothing.
-use Rattle.std.proofs.Common.{◌≡◌, ℕ, ◌<◌, ◌≤◌, false, not, leb, List, [], ◌∷◌, map, reverse, length, get_or, replicate, sum, sym, refl, ap, ◌∙◌, subst}
+use Rattle.std.proofs.Common.{◌≡◌, ℕ, ◌≤◌, false, not, leb, List, ◌∷◌, map, reverse, length, get_or, replicate, sum, sym, refl, ap, ◌∙◌, subst}
 use mathlib.Core.List.{reverse-reverse}
 use Rattle.std.proofs.lemmas.Bool.{leb-true, not-false}
 use Rattle.lattice.specs.declared.vector.Vector.{Vector}

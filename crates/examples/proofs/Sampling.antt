@@ -1,5 +1,5 @@
 -- The worked example of a trace. Assumes nothing.
-use Rattle.std.proofs.Common.{◌≡◌, ℕ, List, [], ◌∷◌, replicate, refl, lit≤}
+use Rattle.std.proofs.Common.{ℕ, List, [], ◌∷◌, replicate, refl, lit≤}
 use Rattle.lattice.specs.declared.vector.Vector.{Vector}
 use Rattle.lattice.specs.declared.condition.Reply.{Reply}
 use Rattle.lattice.specs.declared.board.Board.{Board}

@@ -1,13 +1,13 @@
 -- The worked examples of vans at gates. Assumes nothing.
-use Rattle.std.proofs.Common.{◌≡◌, ℕ, ◌≤◌, List, [], ◌∷◌, replicate, Ok, refl, arith, lit<, lit≤}
+use Rattle.std.proofs.Common.{ℕ, List, [], ◌∷◌, replicate, refl, arith, lit<, lit≤}
 use Rattle.lattice.specs.declared.vector.Vector.{Vector}
 use Rattle.lattice.specs.declared.condition.Reply.{Reply}
 use Rattle.lattice.specs.declared.board.Board.{Board}
 use Rattle.lattice.specs.declared.verdict.Verdict as verdict
 use Rattle.lattice.specs.declared.verdict.Verdict.{Verdict}
 use Rattle.lattice.specs.Limits.{places, highest, deciding}
-use Rattle.lattice.specs.Steps.{reading, Fresh, FloorStep, CeilingStep, stay, lift, holds, never, above, spent, RunStep, searched}
-use Rattle.lattice.specs.History.{History, floor, ceiling, run, Step, floored, ceiled, ran, Reached, new, called}
+use Rattle.lattice.specs.Steps.{FloorStep, CeilingStep, stay, lift, holds, never, above, spent, RunStep, searched}
+use Rattle.lattice.specs.History.{floored, ceiled, ran, Reached, new, called}
 use Rattle.examples.specs.Depots.{alike, apart, replies}
 use Rattle.examples.specs.Gates.{Alike, Apart}
 use Rattle.examples.proofs.Boards.{vector, board, gives}

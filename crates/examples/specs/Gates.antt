@@ -1,6 +1,5 @@
 -- The worked examples of vans at gates, on boards. Assumes nothing.
-use Rattle.std.specs.Prelude.{List, [], ◌∷◌}
-use Rattle.lattice.specs.declared.call.Call.{Call}
+use Rattle.std.specs.Prelude.{[], ◌∷◌}
 use Rattle.lattice.specs.declared.call.Call.TheVariants.{Floor, Ceiling, Run}
 use Rattle.lattice.specs.declared.verdict.Answer.TheVariants.{Pending, Found, None}
 use Rattle.lattice.specs.Limits.{deciding}

@@ -7,7 +7,7 @@ use Rattle.lattice.specs.declared.board.Reading.{Reading}
 use Rattle.lattice.specs.declared.verdict.Answer.{Answer}
 use Rattle.lattice.specs.declared.call.Call.{Call}
 use Rattle.lattice.specs.Steps.{reading}
-use Rattle.lattice.specs.History.{Entry, History, run, asked, Reached}
+use Rattle.lattice.specs.History.{History, run, asked, Reached}
 
 -- the latest call is a run that answered a, and a read would now give this count and the heights x and y at places 0 and 1, 0 elsewhere
 pub record Ended (a : Answer) (count x y : ℕ) (l : History) (r : Reading) : Type 0 where

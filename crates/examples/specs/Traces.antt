@@ -1,6 +1,5 @@
 -- The worked example of a trace, on boards. Assumes nothing.
-use Rattle.std.specs.Prelude.{◌≡◌, ℕ, List, [], ◌∷◌, map, take}
-use Rattle.lattice.specs.declared.call.Call.{Call}
+use Rattle.std.specs.Prelude.{◌≡◌, [], ◌∷◌, map, take}
 use Rattle.lattice.specs.declared.call.Call.TheVariants.{Run}
 use Rattle.lattice.specs.declared.verdict.Answer.TheVariants.{Found, None}
 use Rattle.lattice.specs.Limits.{deciding}

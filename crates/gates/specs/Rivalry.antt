@@ -1,5 +1,5 @@
 -- Rivals in words and as tests, and as vans go down their orders. Assumes nothing.
-use Rattle.std.specs.Prelude.{◌≡◌, ℕ, ◌<◌, ◌≤◌, true, false, not}
+use Rattle.std.specs.Prelude.{◌≡◌, ℕ, ◌<◌, ◌≤◌, true, false}
 use Rattle.std.proofs.Common.{subst, arith, ⊎_elim}
 use Rattle.std.proofs.lemmas.Bool.{cases_Bool, and_parts, and_from, both_ways, lt-ltb, le-leb, leb-true, ltb-true, not_from_true, not_from_false}
 use Rattle.lattice.specs.First.{first}

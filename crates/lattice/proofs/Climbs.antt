@@ -1,5 +1,5 @@
 -- Lifts by the replies of a lawful condition: where they lead. Assumes nothing but the laws.
-use Rattle.std.proofs.Common.{◌≡◌, ℕ, ◌+◌, ◌≤◌, sum, sym, subst, arith}
+use Rattle.std.proofs.Common.{ℕ, ◌+◌, ◌≤◌, sum, arith}
 use Rattle.lattice.specs.declared.vector.Vector.{Vector}
 use Rattle.lattice.specs.declared.condition.Reply.{Reply}
 use Rattle.lattice.specs.Order.{at, AtMost}

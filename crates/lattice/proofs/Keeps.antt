@@ -1,18 +1,17 @@
 -- What every call on a board keeps, for a condition that keeps the laws. Assumes nothing but the laws.
-use Rattle.std.proofs.Common.{◌≡◌, ℕ, ◌+◌, ◌<◌, ◌≤◌, min, max, ◌⊎◌, [], ◌∷◌, get_or, set, Ok, Err, sym, refl, ap, ◌∙◌, subst, inl, inr, ⊎_elim, arith}
+use Rattle.std.proofs.Common.{◌≡◌, ℕ, ◌<◌, ◌≤◌, min, max, ◌⊎◌, [], ◌∷◌, get_or, set, Ok, sym, refl, ap, ◌∙◌, subst, inl, inr, ⊎_elim, arith}
 use Rattle.std.proofs.lemmas.List.{get_or-replicate, set-get_or}
 use Rattle.std.proofs.lemmas.Bool.{cases_lt}
 use Rattle.lattice.specs.declared.vector.Vector.{Vector}
 use Rattle.lattice.specs.declared.condition.Reply.{Reply}
 use Rattle.lattice.specs.declared.board.Board.{Board}
-use Rattle.lattice.specs.declared.board.Reading.{Reading}
 use Rattle.lattice.specs.declared.verdict.Verdict.{Verdict}
 use Rattle.lattice.specs.declared.call.Call.{Call}
 use Rattle.lattice.specs.Limits.{places, highest}
 use Rattle.lattice.specs.Order.{at, AtMost}
 use Rattle.lattice.specs.Laws.{Lawful}
 use Rattle.lattice.specs.Refusals.{Accepted}
-use Rattle.lattice.specs.Steps.{IsOpen, IsFound, IsNone, answer_of, reopened, reading, Fresh, FloorStep, CeilingStep, Climb, Ends, holds as held, never, above, spent, Searched, RunStep, found, none, searched}
+use Rattle.lattice.specs.Steps.{IsOpen, IsFound, IsNone, answer_of, reopened, reading, Fresh, FloorStep, CeilingStep, Climb, Ends, holds as held, never, above, spent, RunStep, found, none, searched}
 use Rattle.lattice.specs.History.{Entry, History, floor, ceiling, run, FloorAccepted, CeilingAccepted, Judged, lifts, if_pending, pending_budgets, Step, floored, floor_refused, ceiled, ceiling_refused, ran, answered, Reached, new, called}
 use Rattle.lattice.specs.Promises.{CeilingOf}
 use Rattle.lattice.proofs.Heights.{set_each, set_each_other, set_here, same_vector}

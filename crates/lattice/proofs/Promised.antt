@@ -1,23 +1,21 @@
 -- After every list of calls, what is promised holds. Assumes nothing but the laws of the condition.
-use Rattle.std.proofs.Common.{◌≡◌, ℕ, ◌≤◌, [], ◌∷◌, Ok, Err, sym, refl, ap, ◌∙◌, subst, ⊎_elim, arith}
+use Rattle.std.proofs.Common.{◌≡◌, ℕ, ◌≤◌, ◌∷◌, Ok, Err, sym, refl, subst, arith}
 use Rattle.refusal.specs.declared.Refusal.{Refusal}
 use Rattle.lattice.specs.declared.vector.Vector.{Vector}
 use Rattle.lattice.specs.declared.condition.Reply.{Reply}
 use Rattle.lattice.specs.declared.board.Board.{Board}
-use Rattle.lattice.specs.declared.board.Reading.{Reading}
 use Rattle.lattice.specs.declared.verdict.Verdict as verdict
 use Rattle.lattice.specs.declared.verdict.Verdict.{Verdict}
-use Rattle.lattice.specs.declared.verdict.Answer as answer
 use Rattle.lattice.specs.declared.verdict.Answer.{Answer}
 use Rattle.lattice.specs.declared.call.Call.{Call}
 use Rattle.lattice.specs.Limits.{deciding}
 use Rattle.lattice.specs.Order.{at}
-use Rattle.lattice.specs.Laws.{Lawful, Holding}
+use Rattle.lattice.specs.Laws.{Lawful}
 use Rattle.lattice.specs.Refusals.{Accepted, Refused}
 use Rattle.lattice.specs.Steps.{IsOpen, IsFound, IsNone, answer_of, reading, FloorStep, CeilingStep, Climb, Liftable, Ends, holds as held, never, above, spent, RunStep, found, none, searched}
-use Rattle.lattice.specs.History.{Entry, History, floor, ceiling, run, read, after, Step, floored, floor_refused, ceiled, ceiling_refused, ran, answered, Reached, new, called}
+use Rattle.lattice.specs.History.{Entry, History, floor, ceiling, run, after, Step, floored, floor_refused, ceiled, ceiling_refused, ran, answered, Reached, new, called}
 use Rattle.lattice.specs.Promises.{Solution, LeastSolution, Unsolvable, Decides, found as decides-found, none as decides-none, NextLift, Tells, pending_open as open-pending, found_found, none_none, RunPromise, Latest, Promises, Throughout}
-use Rattle.lattice.specs.Calls.{Kept, RunCall, BoundCall, ToldByReplies}
+use Rattle.lattice.specs.Calls.{Kept, RunCall, BoundCall}
 use Rattle.lattice.proofs.Heights.{total_strict}
 use Rattle.lattice.proofs.Verdicts.{open_not_found, open_not_none, found_not_none, pending_open}
 use Rattle.lattice.proofs.Climbs.{climb_sum}

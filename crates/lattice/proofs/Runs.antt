@@ -1,14 +1,11 @@
 -- Runs one after the other, and that a list of calls has one result. Assumes nothing.
-use Rattle.std.proofs.Common.{◌≡◌, ℕ, zero, suc, ◌+◌, ◌<◌, ◌≤◌, [], ◌∷◌, map, sym, refl, ap, ◌∙◌, subst, ⊎_elim, add-zero, add_assoc, arith}
-use Rattle.std.proofs.lemmas.Bool.{cases_order}
+use Rattle.std.proofs.Common.{◌≡◌, ℕ, ◌+◌, sym, refl, ◌∙◌, subst, add-zero, add_assoc, arith}
 use Rattle.lattice.specs.declared.vector.Vector.{Vector}
 use Rattle.lattice.specs.declared.condition.Reply.{Reply}
-use Rattle.lattice.specs.declared.board.Board.{Board}
 use Rattle.lattice.specs.declared.verdict.Verdict.{Verdict}
-use Rattle.lattice.specs.Order.{at}
-use Rattle.lattice.specs.Steps.{IsOpen, IsFound, IsNone, Climb, stay, lift, Ends, holds as held, never, above, spent, Searched, RunStep, found, none, searched}
+use Rattle.lattice.specs.Steps.{IsOpen, Climb, stay, lift, Ends, holds as held, never, above, spent, found, none, searched}
 use Rattle.lattice.specs.Runs.{RunsAdd}
-use Rattle.lattice.proofs.Verdicts.{open_not_found, open_not_none, found_not_none}
+use Rattle.lattice.proofs.Verdicts.{open_not_found, open_not_none}
 
 module _ (reply : Vector → Reply) where
   climb_on : {top v u w : Vector} {m k : ℕ} → Climb reply top v m u → Climb reply top u k w → Climb reply top v (m + k) w

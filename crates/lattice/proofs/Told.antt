@@ -1,14 +1,13 @@
 -- A condition told by its replies is the condition. Assumes nothing but the laws.
-use Rattle.std.proofs.Common.{◌≡◌, ℕ, [], ◌∷◌}
+use Rattle.std.proofs.Common.{ℕ, [], ◌∷◌}
 use Rattle.lattice.specs.declared.vector.Vector.{Vector}
 use Rattle.lattice.specs.declared.condition.Reply.{Reply}
-use Rattle.lattice.specs.declared.board.Board.{Board}
 use Rattle.lattice.specs.declared.board.Reading.{Reading}
 use Rattle.lattice.specs.declared.verdict.Answer.{Answer}
 use Rattle.lattice.specs.Laws.{Lawful, Holding}
 use Rattle.lattice.specs.Steps.{reading}
 use Rattle.lattice.specs.History.{History, floor, ceiling, run, read}
-use Rattle.lattice.specs.Promises.{Solution, LeastSolution, Unsolvable, Decides, found, none, NextLift, RunPromise, Latest, Promises}
+use Rattle.lattice.specs.Promises.{Solution, Decides, found, none, RunPromise, Latest, Promises}
 use Rattle.lattice.specs.Calls.{ToldByReplies}
 use Rattle.lattice.proofs.Promised.{kept}
 

@@ -1,4 +1,4 @@
-use Rattle.std.proofs.Common.{◌≡◌, ℕ, ◌+◌, ◌<◌, ◌≤◌, List, get_or, sym, ap, ◌∙◌, subst, arith}
+use Rattle.std.proofs.Common.{◌≡◌, ◌+◌, get_or, sym, ap, ◌∙◌, subst, arith}
 use Rattle.lattice.specs.Order.{at}
 use Rattle.trace.specs.declared.clock.Clock.{Clock}
 use Rattle.trace.specs.Clocks.{merged}

@@ -1,4 +1,4 @@
-use Rattle.std.proofs.Common.{◌≡◌, ℕ, ◌<◌, ◌≤◌, length, get_or, sym, ap, ◌∙◌, subst, arith, below_more}
+use Rattle.std.proofs.Common.{◌≡◌, ◌<◌, ◌≤◌, length, get_or, sym, ap, ◌∙◌, subst, arith, below_more}
 use Rattle.lattice.specs.Order.{at}
 use Rattle.lattice.specs.declared.vector.Vector.{Vector}
 use Rattle.lattice.specs.declared.condition.Reply.{Reply}

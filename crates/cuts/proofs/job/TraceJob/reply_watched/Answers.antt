@@ -1,4 +1,4 @@
-use Rattle.std.proofs.Common.{◌≡◌, ℕ, ◌<◌, ◌≤◌, true, false, not, ◌&&◌, get_or, sym, ap, ◌∙◌, subst, arith, below_more}
+use Rattle.std.proofs.Common.{◌≡◌, true, false, not, ◌&&◌, get_or, sym, ap, ◌∙◌, subst, arith, below_more}
 use Rattle.lattice.specs.Order.{at}
 use Rattle.lattice.specs.declared.vector.Vector.{Vector}
 use Rattle.lattice.specs.declared.condition.Reply.{Reply}

@@ -1,5 +1,4 @@
-use Rattle.std.proofs.Common.{◌≡◌, ◌<◌, sum, sym, refl, ap, ◌∙◌, arith}
-use Rattle.lattice.specs.Laws.{Lawful}
+use Rattle.std.proofs.Common.{◌<◌, sum, sym, refl, ap, ◌∙◌, arith}
 use Rattle.lattice.specs.Order.{at}
 use Rattle.lattice.specs.Steps.{answer_of, stay, lift, holds, never, above, spent, found, none, searched}
 use Rattle.lattice.proofs.Heights.{set_sum, total_bound}

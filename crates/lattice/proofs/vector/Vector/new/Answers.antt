@@ -1,4 +1,4 @@
-use Rattle.std.proofs.Common.{refl, arith, rules}
+use Rattle.std.proofs.Common.{refl, rules}
 use Rattle.lattice.proofs.vector.Vector.new.Goals as goal
 
 pub returns-then-heights-place-gt-HIGHEST : goal.returns-then-heights-place-gt-HIGHEST
