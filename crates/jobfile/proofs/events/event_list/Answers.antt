@@ -4,10 +4,10 @@ use Rattle.jobfile.proofs.Happening.{events_none, events_more, events_break, eve
 use Rattle.jobfile.proofs.events.event_list.Goals as goal
 
 pub loop-init : goal.loop-init
-loop-init c = events_none _ _ _ c.requires.0 refl
+loop-init c = events_none _ _ _ c.requires.job_value refl
 
 pub event-requires : goal.event-requires
-event-requires c = omega (arith, c.loop.invariant.many, c.loop-test.true, c.requires.1)
+event-requires c = omega (arith, c.loop.invariant.many, c.loop-test.true, c.requires.count_le_longest)
 
 pub returns-in_err-event : goal.returns-in_err-event
 returns-in_err-event c =

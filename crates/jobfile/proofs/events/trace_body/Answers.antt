@@ -34,7 +34,7 @@ channel_list-requires c =
     let new =
     anew c.args.n c.in_ok-watch.watch c.in_ok-wish.wish c.args.job.now c.begin.new.self c.begin.result
     c.requires c.in_ok-watch.ensures.0.1 c.begin.ensures in
-    (new.channels, c.in_ok-channels.ensures.0.1)
+    (record { job_value = new.channels; count_bound = c.in_ok-channels.ensures.0.1 })
 
 pub returns-in_err-channel_list : goal.returns-in_err-channel_list
 returns-in_err-channel_list c =
@@ -67,10 +67,10 @@ pub event_list-requires : goal.event_list-requires
 event_list-requires c =
     let new =
     anew c.args.n c.in_ok-watch.watch c.in_ok-wish.wish c.args.job.now c.begin.new.self c.begin.result
-    c.requires c.in_ok-watch.ensures.0.1 c.begin.ensures in (
-      still_none new c.channel_list.new.job c.in_ok-channels.channels c.channel_count.new.reader c.channel_list.new.reader c.in_ok-channel_list.ensures,
-      c.in_ok-events.ensures.0.1,
-    )
+    c.requires c.in_ok-watch.ensures.0.1 c.begin.ensures in (record {
+      job_value = still_none new c.channel_list.new.job c.in_ok-channels.channels c.channel_count.new.reader c.channel_list.new.reader c.in_ok-channel_list.ensures;
+      count_le_longest = c.in_ok-events.ensures.0.1;
+    })
 
 pub returns : goal.returns
 returns c =

@@ -5,10 +5,10 @@ use Rattle.jobfile.proofs.Listing.{channels_none, channels_more, channels_fail}
 use Rattle.jobfile.proofs.fields.channel_list.Goals as goal
 
 pub loop-init : goal.loop-init
-loop-init c = channels_none _ _ c.requires.0
+loop-init c = channels_none _ _ c.requires.job_value
 
 pub channel-requires : goal.channel-requires
-channel-requires c = omega (arith, c.loop.invariant.many, c.requires.1)
+channel-requires c = omega (arith, c.loop.invariant.many, c.requires.count_bound)
 
 pub returns-in_err-channel : goal.returns-in_err-channel
 returns-in_err-channel c =

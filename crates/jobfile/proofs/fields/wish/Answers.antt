@@ -6,29 +6,29 @@ use Rattle.jobfile.specs.Fields.{letter_of_kind}
 use Rattle.jobfile.proofs.Taking.{first_byte, first_words, missing_as}
 use Rattle.jobfile.proofs.fields.wish.Goals as goal
 
-pub returns-in_err-wish_of : goal.returns-in_err-wish_of
-returns-in_err-wish_of c =
+pub returns-in_err-wish_of-in-Code : goal.returns-in_err-wish_of-in-Code
+returns-in_err-wish_of-in-Code c =
     let p = err_from_is_err_and c.from_residual.result c.from_residual.ensures.1 in
-    let short = c.in_err-wish_of.ensures in
+    let short = c.in_err-wish_of-in-Code.ensures in
     rw (p.1, p.2) (missing_as _ _ _ _ _ _ (omega (arith, short.0, ap (λ k. kind_width (letter_of_kind k)) c.in-Code.is)) short.1)
 
-pub returns-in_err-wish_of-2 : goal.returns-in_err-wish_of-2
-returns-in_err-wish_of-2 c =
-    let p = err_from_is_err_and c.from_residual-in_err-wish_of-2.result c.from_residual-in_err-wish_of-2.ensures.1 in
-    let short = c.in_err-wish_of-2.ensures in
+pub returns-in_err-wish_of-in-Scan : goal.returns-in_err-wish_of-in-Scan
+returns-in_err-wish_of-in-Scan c =
+    let p = err_from_is_err_and c.from_residual-in_err-wish_of-in-Scan.result c.from_residual-in_err-wish_of-in-Scan.ensures.1 in
+    let short = c.in_err-wish_of-in-Scan.ensures in
     rw (p.1, p.2) (missing_as _ _ _ _ _ _ (omega (arith, short.0, ap (λ k. kind_width (letter_of_kind k)) c.in-Scan.is)) short.1)
 
-pub returns-in_ok-wish_of : goal.returns-in_ok-wish_of
-returns-in_ok-wish_of c =
-    let read = c.in_ok-wish_of.ensures in (
+pub returns-in_ok-wish_of-in-Code : goal.returns-in_ok-wish_of-in-Code
+returns-in_ok-wish_of-in-Code c =
+    let read = c.in_ok-wish_of-in-Code.ensures in (
       ((sym (ap letter_of_kind c.in-Code.is), omega (arith, read.says, read.bytes 0)), tt),
       first_byte _ _ _ read.took.is _ read.long read.says,
       read.took.total,
     )
 
-pub returns-in_ok-wish_of-2 : goal.returns-in_ok-wish_of-2
-returns-in_ok-wish_of-2 c =
-    let read = c.in_ok-wish_of-2.ensures in
+pub returns-in_ok-wish_of-in-Scan : goal.returns-in_ok-wish_of-in-Scan
+returns-in_ok-wish_of-in-Scan c =
+    let read = c.in_ok-wish_of-in-Scan.ensures in
     let stop = ap (λ (w : ScanWish). w.stop) read.says in
     let parcels = ap (λ (w : ScanWish). w.parcels) read.says in (
       (
