@@ -8,7 +8,6 @@ use Rattle.payload.specs.Marks.{width_of}
 use Rattle.trace.specs.declared.event.Event.{Event}
 use Rattle.trace.specs.Events.{longest}
 use Rattle.trace.specs.Growth.{BreaksMessages}
-use Rattle.cuts.specs.declared.channel.Channel.{Channel}
 use Rattle.wire.specs.Bytes.{word2}
 use Rattle.wire.specs.Parts.{row, Then, Each, FieldBroken}
 use Rattle.wire.specs.Frames.{trace_letter, gates_letter, Framed, FrameBroken, Behind}

@@ -105,7 +105,7 @@ impl Session {
         output.write_all(b"clocks")?;
         for at in 0..trace.len() {
             if let Some(clock) = trace.clock(at) {
-                output.write_all(answers::clock(clock, trace.processes()).as_bytes())?;
+                output.write_all(answers::clock(&clock, trace.processes()).as_bytes())?;
             }
         }
         output.write_all(b"\n")

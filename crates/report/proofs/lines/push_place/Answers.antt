@@ -1,4 +1,4 @@
-use Rattle.std.proofs.Common.{ℕ, List, [], ◌∷◌, ◌++◌, decimal}
+use Rattle.std.proofs.Common.{[], ◌∷◌, ◌++◌, decimal}
 use Rattle.text.specs.Texts.{written}
 use Rattle.report.specs.Lines.{shown_by}
 use Rattle.report.proofs.Fitting.{added_then}

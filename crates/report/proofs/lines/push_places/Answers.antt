@@ -1,4 +1,4 @@
-use Rattle.std.proofs.Common.{◌≡◌, ℕ, List, sym, ap, ◌∙◌, add-one, arith, length-take}
+use Rattle.std.proofs.Common.{◌≡◌, ℕ, sym, ap, ◌∙◌, add-one, arith, length-take}
 use Rattle.text.specs.Texts.{written, added}
 use Rattle.text.proofs.Adding.{added_nothing}
 use Rattle.report.specs.Lines.{place_line, place_lines, shown_by}
