@@ -1,6 +1,6 @@
 -- The body of a trace job, part by part: what was read, and what is broken behind it. Assumes nothing.
 use Rattle.std.proofs.Common.{◌≡◌, ℕ, ◌^◌, ◌<◌, ◌≤◌, List, [], ◌∷◌, ◌++◌, length, Ok, Err, vec_items, Result, sym, refl, ap, ◌∙◌, subst, subst₂, append_assoc, arith, MatchResult}
-use Rattle.std.specs.List.{flat_map, AllByRecursion as All}
+use Rattle.std.specs.List.{flat_map, AllByRecursion}
 use Rattle.refusal.specs.declared.Refusal.{Refusal}
 use Rattle.payload.specs.declared.wish.Wish.{Wish}
 use Rattle.payload.specs.Marks.{width_of}
@@ -58,8 +58,8 @@ one_more {bytes = bytes} {After = After} {left = left} {front = front} so end a 
 
 -- the channels of a job that is begun anew
 module _ {n watch : ℕ} {wish : Wish} {j : TraceJob} (new : Anew n watch wish j) (k : TraceJob) (count : ℕ) (left end : Reader) (read : ChannelsRead count left end j k) where
-  pub channels_stand : Stood (λ xs. (length xs ≡ count) × All (ChannelOk n) xs) (flat_map channel_bytes) (listed k) left end
-  channels_stand = ((read.many, subst (λ m. All (ChannelOk m) (listed k)) new.count read.ok), read.took.is, read.took.total)
+  pub channels_stand : Stood (λ xs. (length xs ≡ count) × AllByRecursion (ChannelOk n) xs) (flat_map channel_bytes) (listed k) left end
+  channels_stand = ((read.many, subst (λ m. AllByRecursion (ChannelOk m) (listed k)) new.count read.ok), read.took.is, read.took.total)
 
   -- nothing else is changed by them
   pub still_none : happened k ≡ []
@@ -76,8 +76,8 @@ module _ {n watch : ℕ} {wish : Wish} {j : TraceJob} (new : Anew n watch wish j
 
 -- a broken one among them
 pub channels_break : {n watch : ℕ} {wish : Wish} {j : TraceJob} → Anew n watch wish j → (count total : ℕ) (s : List ℕ) (r : Refusal) →
-    Each count (All (ChannelOk (processes j))) channel_bytes (λ _. ChannelBroken (processes j) total) s r → Each count (All (ChannelOk n)) channel_bytes (λ _. ChannelBroken n total) s r
-channels_break new count total s r b = subst (λ m. Each count (All (ChannelOk m)) channel_bytes (λ _. ChannelBroken m total) s r) new.count b
+    Each count (AllByRecursion (ChannelOk (processes j))) channel_bytes (λ _. ChannelBroken (processes j) total) s r → Each count (AllByRecursion (ChannelOk n)) channel_bytes (λ _. ChannelBroken n total) s r
+channels_break new count total s r b = subst (λ m. Each count (AllByRecursion (ChannelOk m)) channel_bytes (λ _. ChannelBroken m total) s r) new.count b
 
 -- seven parts in a row, grouped from the left and from the right
 regroup : (a b c d e f g t : List ℕ) → (((((a ++ b) ++ c) ++ d) ++ e) ++ f) ++ (g ++ t) ≡ (a ++ (b ++ (c ++ (d ++ (e ++ (f ++ g)))))) ++ t

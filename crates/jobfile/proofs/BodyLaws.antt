@@ -1,6 +1,6 @@
 -- The body of a job file is read in one way. Assumes nothing.
 use Rattle.std.proofs.Common.{◌≡◌, ℕ, ◌^◌, ◌<◌, ◌≤◌, List, [], ◌∷◌, ◌++◌, length, refl, ap, ◌∙◌, subst, inl, inr, append_assoc, arith, pow_mono}
-use Rattle.std.specs.List.{flat_map, AllByRecursion as All}
+use Rattle.std.specs.List.{flat_map, AllByRecursion}
 use Rattle.refusal.specs.declared.Refusal.{Refusal}
 use Rattle.gates.specs.Orders.{OrderOf}
 use Rattle.payload.specs.declared.wish.Wish.{Wish}
@@ -21,7 +21,7 @@ use Rattle.jobfile.proofs.EventLaws.{event_one_way}
 use Rattle.jobfile.proofs.FieldLaws.{byte_one_way, word_one_way, wish_one_way, list_one_way, all_one_way, channel_one_way, row_one_way}
 
 pub channels_one_way : (n total : ℕ) → n ≤ 16 → (count : ℕ) →
-    OneWay (λ cs. (length cs ≡ count) × All (ChannelOk n) cs) (flat_map channel_bytes) (Each count (All (ChannelOk n)) channel_bytes (λ _. ChannelBroken n total))
+    OneWay (λ cs. (length cs ≡ count) × AllByRecursion (ChannelOk n) cs) (flat_map channel_bytes) (Each count (AllByRecursion (ChannelOk n)) channel_bytes (λ _. ChannelBroken n total))
 channels_one_way n total few count = all_one_way (ChannelOk n) channel_bytes (ChannelBroken n total) (channel_one_way n total few) count
 
 pub events_one_way : (n width total count : ℕ) →
@@ -30,7 +30,7 @@ events_one_way n width total count =
     list_one_way (EventsOk n width) (λ es e. EventOk n width e × Fits n es e) (event_bytes width) (EventBroken n width total) (events_split n width) (λ es _. event_one_way n width total es) count
 
 pub rows_one_way : (n total count : ℕ) →
-    OneWay (λ rows. (length rows ≡ count) × All (OrderOf n) rows) (flat_map row_bytes) (Each count (All (OrderOf n)) row_bytes (λ _. RowBroken n total))
+    OneWay (λ rows. (length rows ≡ count) × AllByRecursion (OrderOf n) rows) (flat_map row_bytes) (Each count (AllByRecursion (OrderOf n)) row_bytes (λ _. RowBroken n total))
 rows_one_way n total count = all_one_way (OrderOf n) row_bytes (RowBroken n total) (row_one_way n total) count
 
 -- a part that stands there, with what follows it: then what follows is broken

@@ -1,6 +1,6 @@
 -- The fields of a body, its channels and its rows are each read in one way, and so are lists of them. Assumes nothing.
 use Rattle.std.proofs.Common.{◌≡◌, ℕ, ◌<◌, ◌≤◌, List, ◌∷◌, ◌++◌, length, sym, refl, ap, ◌∙◌, subst, arith, length-append}
-use Rattle.std.specs.List.{flat_map, AllByRecursion as All}
+use Rattle.std.specs.List.{flat_map, AllByRecursion}
 use Rattle.refusal.specs.declared.Refusal.{Refusal}
 use Rattle.gates.specs.Orders.{OrderOf}
 use Rattle.payload.specs.declared.wish.Wish.{Wish}
@@ -53,8 +53,8 @@ module _ {A : Type 0} (Good : List A → Type 0) (Next : List A → A → Type 0
 
 -- and if each is read in one way wherever it stands
 pub all_one_way : {A : Type 0} (P : A → Type 0) (bytes : A → List ℕ) (Broken : List ℕ → Refusal → Type 0) → OneWay P bytes Broken → (count : ℕ) →
-    OneWay (λ xs. (length xs ≡ count) × All P xs) (flat_map bytes) (Each count (All P) bytes (λ _. Broken))
-all_one_way P bytes Broken one count = list_one_way (All P) (λ _. P) bytes (λ _. Broken) (all_split P) (λ _ _. one) count
+    OneWay (λ xs. (length xs ≡ count) × AllByRecursion P xs) (flat_map bytes) (Each count (AllByRecursion P) bytes (λ _. Broken))
+all_one_way P bytes Broken one count = list_one_way (AllByRecursion P) (λ _. P) bytes (λ _. Broken) (all_split P) (λ _ _. one) count
 
 channel_same : (a b : Channel) (t u : List ℕ) → channel_bytes a ++ t ≡ channel_bytes b ++ u → (a ≡ b) × (t ≡ u)
 channel_same a b t u e =

@@ -1,6 +1,6 @@
 -- An event that is read: its record, and what the trace says of it; and events in a row. Assumes nothing.
 use Rattle.std.proofs.Common.{◌≡◌, ℕ, ◌+◌, ◌-◌, ◌<◌, ◌≤◌, List, [], ◌++◌, length, take, replicate, Ok, Err, sym, refl, ap, ◌∙◌, subst, subst₂, append_assoc, arith, take-take, take_at}
-use Rattle.std.specs.List.{flat_map, AllByRecursion as All}
+use Rattle.std.specs.List.{flat_map, AllByRecursion}
 use Rattle.std.proofs.lemmas.List.{length_push, flat_map_more}
 use Rattle.std.proofs.ByRecursion.{All-push}
 use Rattle.refusal.specs.declared.Layer.TheVariants.{Job}
@@ -119,7 +119,7 @@ module _ (before : Reader) (j : TraceJob) (n width : ℕ) (same-n : n ≡ proces
 pub events_none : (count : ℕ) (before : Reader) (j : TraceJob) → happened j ≡ [] → count ≡ 0 → EventsRead count before before j j
 events_none count before j none zero = record {
   many = ap length none ∙ sym zero;
-  ok = (valid j.trace, subst (All (EventOk (processes j) (width_of j.wish))) (sym none) tt);
+  ok = (valid j.trace, subst (AllByRecursion (EventOk (processes j) (width_of j.wish))) (sym none) tt);
   took = record { is = ap (λ es. flat_map (event_bytes (width_of j.wish)) es ++ before.rest.now) (sym none); total = refl };
   same = record { processes = refl; wish = refl; watch = refl; channels = refl };
 }
@@ -141,7 +141,7 @@ module _ (i : ℕ) (before left : Reader) (j k : TraceJob) (so : EventsRead i be
         many = ap length one.list ∙ length_push (happened k) one.event ∙ ap (λ (m : ℕ). m + 1) so.many;
         ok = (
           subst (λ m. Valid m (happened l)) (one.same.processes ∙ so.same.processes) one.valid,
-          subst (All (EventOk (processes j) (width_of j.wish))) (sym one.list)
+          subst (AllByRecursion (EventOk (processes j) (width_of j.wish))) (sym one.list)
               (All-push _ (happened k) one.event so.ok.1 (subst₂ (λ m w. EventOk m w one.event) so.same.processes same_width one.ok)),
         );
         took = record { is = so.took.is ∙ ap (λ z. flat_map bytes (happened k) ++ z) here ∙ moved; total = one.took.total ∙ so.took.total };

@@ -1,6 +1,6 @@
 -- Channels, one after another: how one is broken, and what is read of them so far. Assumes nothing.
 use Rattle.std.proofs.Common.{◌≡◌, ℕ, ◌+◌, ◌-◌, ◌<◌, ◌≤◌, List, [], ◌∷◌, length, sym, refl, ap, ◌∙◌, subst, subst₂, arith}
-use Rattle.std.specs.List.{flat_map, AllByRecursion as All}
+use Rattle.std.specs.List.{flat_map, AllByRecursion}
 use Rattle.std.proofs.lemmas.List.{length_push}
 use Rattle.std.proofs.ByRecursion.{All-push}
 use Rattle.refusal.specs.declared.Layer.TheVariants.{Job}
@@ -46,7 +46,7 @@ module _ (n total : ℕ) (s : List ℕ) where
 pub channels_none : (r : Reader) (j : TraceJob) → listed j ≡ [] → ChannelsRead 0 r r j j
 channels_none r j none = record {
   many = ap length none;
-  ok = subst (All (ChannelOk (processes j))) (sym none) tt;
+  ok = subst (AllByRecursion (ChannelOk (processes j))) (sym none) tt;
   took = subst (λ l. Took (flat_map channel_bytes l) r r) (sym none) (record { is = refl; total = refl });
   same = record { trace = refl; wish = refl; watch = refl };
 }
@@ -60,7 +60,7 @@ module _ {count : ℕ} {before mid : Reader} {j k : TraceJob} (read : ChannelsRe
       let ok = All-push (ChannelOk (processes j)) (listed k) one.channel read.ok (subst (λ n. ChannelOk n one.channel) counted one.ok) in
       record {
         many = ap length one.list ∙ omega (arith, length_push (listed k) one.channel, read.many);
-        ok = subst (All (ChannelOk (processes j))) (sym one.list) ok;
+        ok = subst (AllByRecursion (ChannelOk (processes j))) (sym one.list) ok;
         took = subst (λ l. Took (flat_map channel_bytes l) before left) (sym one.list) (took_more channel_bytes (listed k) one.channel read.took one.took);
         same = record {
           trace = one.same.trace ∙ read.same.trace;
@@ -71,7 +71,7 @@ module _ {count : ℕ} {before mid : Reader} {j k : TraceJob} (read : ChannelsRe
 
   -- the next channel is broken
   pub channels_fail : (all : ℕ) {r : Refusal} → count < all → ChannelBroken (processes k) mid.total mid.rest.now r →
-      Each all (All (ChannelOk (processes j))) channel_bytes (λ _. ChannelBroken (processes j) before.total) before.rest.now r
+      Each all (AllByRecursion (ChannelOk (processes j))) channel_bytes (λ _. ChannelBroken (processes j) before.total) before.rest.now r
   channels_fail all {r} less broken =
       next (listed k) mid.rest.now (omega (arith, read.many)) read.ok read.took.is
       (subst₂ (λ n total. ChannelBroken n total mid.rest.now r) counted read.took.total broken)

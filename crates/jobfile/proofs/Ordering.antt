@@ -1,6 +1,6 @@
 -- A row that is read: an order, or none; and the rows of a side one after another. Assumes nothing.
 use Rattle.std.proofs.Common.{◌≡◌, ℕ, ◌+◌, ◌-◌, ◌<◌, ◌≤◌, List, [], ◌∷◌, ◌++◌, length, get_or, Ok, Err, Result, sym, refl, ap, ◌∙◌, subst, subst₂, ⊎_elim, append_assoc, arith, MatchResult}
-use Rattle.std.specs.List.{flat_map, AllByRecursion as All}
+use Rattle.std.specs.List.{flat_map, AllByRecursion}
 use Rattle.std.proofs.lemmas.List.{length_push, get_or_push, get_or_append_left, flat_map_more}
 use Rattle.std.proofs.ByRecursion.{All-push}
 use Rattle.std.proofs.lemmas.Bool.{cases_lt}
@@ -64,7 +64,7 @@ put_as t i list g {s} {h} {m} {r} {q} same result gates put =
 pub record SomeRows (s : Side) (i : ℕ) (before left : Reader) (g h : Gates) : Type 0 where
   pub rows : List (List ℕ)
   pub many : length rows ≡ i
-  pub ok : All (OrderOf (sides g).n) rows
+  pub ok : AllByRecursion (OrderOf (sides g).n) rows
   pub took : Took (flat_map row_bytes rows) before left
   pub stand : (k p : ℕ) → k < i → p < (sides g).n → number_at (table_of s h).rows k p ≡ number_at rows k p
   pub count : (sides h).n ≡ (sides g).n

@@ -1,6 +1,6 @@
 -- The first events of a trace that keeps its rules keep them too, and the next fits behind them. Assumes nothing.
 use Rattle.std.proofs.Common.{◌≡◌, ℕ, ◌<◌, List, [], ◌∷◌, ◌++◌, length, sym, refl, ap, ◌∙◌, subst, append_assoc, arith, length-append}
-use Rattle.std.specs.List.{AllByRecursion as All}
+use Rattle.std.specs.List.{AllByRecursion}
 use Rattle.std.proofs.lemmas.List.{get_or_append_left}
 use Rattle.trace.specs.declared.event.Event.{Event}
 use Rattle.trace.specs.Events.{longest, event, by, does, Sending, Receiving}
@@ -66,7 +66,7 @@ pub valid_split : (n : ℕ) (es more : List Event) (e : Event) → Valid n (es +
 valid_split n es more e v = (valid_front es (e ∷ more) n v, last_fits n es e (valid_front (es ++ e ∷ []) more n (subst (Valid n) (sym (append_assoc es (e ∷ []) more)) v)))
 
 -- what holds of each element holds of the first ones, and of the next
-pub all_split : {A : Type 0} (P : A → Type 0) (xs ys : List A) (x : A) → All P (xs ++ x ∷ ys) → All P xs × P x
+pub all_split : {A : Type 0} (P : A → Type 0) (xs ys : List A) (x : A) → AllByRecursion P (xs ++ x ∷ ys) → AllByRecursion P xs × P x
 all_split P [] ys x a = (tt, a.0)
 all_split P (z ∷ xs) ys x a =
     let (front, one) = all_split P xs ys x a.1 in

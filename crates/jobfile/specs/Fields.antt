@@ -1,6 +1,6 @@
 -- The faults of the job reader as rows, and what its steps take off a body and where they put it. Assumes nothing.
 use Rattle.std.specs.Prelude.{◌≡◌, ℕ, ◌<◌, List, [], ◌∷◌, ◌++◌, length, ◌≢◌, slice_index}
-use Rattle.std.specs.List.{flat_map, AllByRecursion as All}
+use Rattle.std.specs.List.{flat_map, AllByRecursion}
 use Rattle.refusal.specs.declared.Layer.TheVariants.{Job}
 use Rattle.refusal.specs.declared.Refusal.{Refusal}
 use Rattle.gates.specs.declared.gates.Gates.{Gates}
@@ -74,7 +74,7 @@ pub record ChannelRead (before left : Reader) (j k : TraceJob) : Type 0 where
 -- so many channels, where there were none
 pub record ChannelsRead (count : ℕ) (before left : Reader) (j k : TraceJob) : Type 0 where
   pub many : length (listed k) ≡ count
-  pub ok : All (ChannelOk (processes j)) (listed k)
+  pub ok : AllByRecursion (ChannelOk (processes j)) (listed k)
   pub took : Took (flat_map channel_bytes (listed k)) before left
   pub same : SameButChannels j k
 

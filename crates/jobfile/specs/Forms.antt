@@ -1,6 +1,6 @@
 -- Jobs as values, which of them are well formed, and the bytes that a job file has for each. Assumes nothing.
 use Rattle.std.specs.Prelude.{◌≡◌, ℕ, ◌+◌, ◌^◌, ◌<◌, ◌≤◌, Bool, ◌||◌, List, [], ◌∷◌, ◌++◌, length, take, ◌==◌, ◌≢◌, slice_index}
-use Rattle.std.specs.List.{flat_map, AllByRecursion as All}
+use Rattle.std.specs.List.{flat_map, AllByRecursion}
 use Rattle.gates.specs.Orders.{OrderOf}
 use Rattle.payload.specs.declared.wish.Wish.{Wish}
 use Rattle.payload.specs.declared.wish.Wish.TheVariants.{Code, Scan}
@@ -95,14 +95,14 @@ EventOk n width e = OwnRules n width (record_of width e) × (e.payload ≡ padde
 
 -- events that keep their own rules and those of messages
 abbrev pub EventsOk : ℕ → ℕ → List Event → Type 0
-EventsOk n width es = Valid n es × All (EventOk n width) es
+EventsOk n width es = Valid n es × AllByRecursion (EventOk n width) es
 
 pub record TraceRules (n watch : ℕ) (wish : Wish) (channels : List Channel) (events : List Event) : Type 0 where
   -- no watch bit at n or above
   pub bits : watch < 2 ^ n
   pub wished : WishFits wish
   pub few : length channels ≤ 8
-  pub between : All (ChannelOk n) channels
+  pub between : AllByRecursion (ChannelOk n) channels
   pub happened : EventsOk n (width_of wish) events
 
 -- a row is an order of the numbers below n, and there are n of them
@@ -110,7 +110,7 @@ abbrev pub RowOk : ℕ → List ℕ → Type 0
 RowOk n row = OrderOf n row
 
 abbrev pub RowsOk : ℕ → List (List ℕ) → Type 0
-RowsOk n rows = (length rows ≡ n) × All (RowOk n) rows
+RowsOk n rows = (length rows ≡ n) × AllByRecursion (RowOk n) rows
 
 abbrev pub Rules : Form → Type 0
 Rules (trace n watch wish channels events) = TraceRules n watch wish channels events

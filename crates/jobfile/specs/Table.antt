@@ -1,6 +1,6 @@
 -- The table of refusals: which rule a file breaks first, in the order of checks, at which byte and in which layer. Assumes nothing.
 use Rattle.std.specs.Prelude.{◌≡◌, ℕ, ◌-◌, ◌^◌, ◌<◌, ◌≤◌, cond, ◌⊎◌, List, [], ◌∷◌, ◌++◌, length, ◌==◌, ◌≢◌}
-use Rattle.std.specs.List.{flat_map, AllByRecursion as All}
+use Rattle.std.specs.List.{flat_map, AllByRecursion}
 use Rattle.refusal.specs.declared.Layer.TheVariants.{Record, Job}
 use Rattle.refusal.specs.declared.Refusal.{Refusal}
 use Rattle.payload.specs.declared.wish.Wish.{Wish}
@@ -68,7 +68,7 @@ TraceBroken n total =
     WordThen (λ watch. watch < 2 ^ n) total λ watch.
     WishThen letter total λ wish.
     ByteThen (λ count. count ≤ 8) total λ count.
-    ListThen count (All (ChannelOk n)) channel_bytes (λ _. ChannelBroken n total) λ channels.
+    ListThen count (AllByRecursion (ChannelOk n)) channel_bytes (λ _. ChannelBroken n total) λ channels.
     WordThen (λ many. many ≤ longest) total λ many.
     Each many (EventsOk n (width_of wish)) (event_bytes (width_of wish)) (EventBroken n (width_of wish) total)
 
@@ -79,10 +79,10 @@ pub data RowBroken (n total : ℕ) (s : List ℕ) : Refusal → Type 0 where
 
 -- n rows for the vans, and then n for the gates
 abbrev pub RowsBroken : ℕ → ℕ → List ℕ → Refusal → Type 0
-RowsBroken n total = Each n (All (RowOk n)) row_bytes (λ _. RowBroken n total)
+RowsBroken n total = Each n (AllByRecursion (RowOk n)) row_bytes (λ _. RowBroken n total)
 
 abbrev pub GatesBroken : ℕ → ℕ → List ℕ → Refusal → Type 0
-GatesBroken n total = ListThen n (All (RowOk n)) row_bytes (λ _. RowBroken n total) (λ vans. RowsBroken n total)
+GatesBroken n total = ListThen n (AllByRecursion (RowOk n)) row_bytes (λ _. RowBroken n total) (λ vans. RowsBroken n total)
 
 -- a file is broken: its frame, or after a good frame its body, or bytes stand behind a body of which all is good
 pub data Broken (file : List ℕ) : Refusal → Type 0 where

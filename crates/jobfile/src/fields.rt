@@ -7,7 +7,7 @@ ghost use Rattle.refusal.specs.declared.Layer.TheVariants.{Job};
 ghost use Rattle.wire.specs.Parts.{row, Reads, Each, FieldBroken};
 ghost use Rattle.jobfile.specs.Forms.{wish_bytes, channel_bytes, ChannelOk};
 ghost use Rattle.jobfile.specs.Table.{Byte, byte_of, Word, IsKind, kind_width, WishOf, ChannelBroken};
-ghost use Rattle.std.specs.List.{AllByRecursion as All};
+ghost use Rattle.std.specs.List.{AllByRecursion};
 ghost use Rattle.jobfile.specs.Fields.{job_row, letter_of_kind, ChannelRead, ChannelsRead, PayloadRead};
 
 use crate::fault::JobFault;
@@ -138,7 +138,7 @@ pub(crate) fn channel_list(
 ) -> Result<(), JobFault>
     requires job_value { listed job.old ≡ [] }
     requires count_bound { count ≤ 8 }
-    ensures { MatchResult result (λ _. ChannelsRead count reader.old reader.new job.old job.new) (λ e. Each count (All (ChannelOk (processes job.old))) channel_bytes (λ _. ChannelBroken (processes job.old) reader.old.total) reader.old.rest.now (job_row e)) }
+    ensures { MatchResult result (λ _. ChannelsRead count reader.old reader.new job.old job.new) (λ e. Each count (AllByRecursion (ChannelOk (processes job.old))) channel_bytes (λ _. ChannelBroken (processes job.old) reader.old.total) reader.old.rest.now (job_row e)) }
 {
     for _ in 0..count {
         channel(reader, job)?;

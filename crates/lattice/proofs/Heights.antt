@@ -1,6 +1,6 @@
 -- Heights of a vector after one of them is set. Assumes nothing.
 use Rattle.std.proofs.Common.{◌≡◌, ℕ, suc, ◌+◌, ◌*◌, ◌<◌, ◌≤◌, List, [], ◌∷◌, length, get_or, set, sum, sym, ap, ◌∙◌, subst, ⊎_elim, arith, length-set}
-use Rattle.std.specs.List.{AllByRecursion as All}
+use Rattle.std.specs.List.{AllByRecursion}
 use Rattle.std.proofs.lemmas.List.{get_or-set_same, get_or-set_other}
 use Rattle.std.proofs.lemmas.List.Sums.{sum_by-set}
 use Rattle.std.proofs.ByRecursion.{sum_by_le}
@@ -42,7 +42,7 @@ pub same_vector : (v w : Vector) → v.heights ≡ w.heights → v ≡ w
 same_vector v w e = values_one struct the_propositions v w (ap (λ l. (l, tt)) e)
 
 -- a list whose every element is at most m
-all_le : (m : ℕ) (l : List ℕ) → ((i : ℕ) → i < length l → get_or l i 0 ≤ m) → All (λ x. x ≤ m) l
+all_le : (m : ℕ) (l : List ℕ) → ((i : ℕ) → i < length l → get_or l i 0 ≤ m) → AllByRecursion (λ x. x ≤ m) l
 all_le m [] h = tt
 all_le m (x ∷ l) h = (h 0 (omega arith), all_le m l (λ i hi. h (suc i) (omega arith)))
 

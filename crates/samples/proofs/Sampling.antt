@@ -1,6 +1,6 @@
 -- The sample job is well formed, and its file is the one that is listed. Assumes nothing.
 use Rattle.std.proofs.Common.{◌≡◌, ℕ, zero, suc, ◌<◌, Bool, true, ◌&&◌, ltb, List, [], ◌∷◌, get_or, sym, refl, ap, ◌∙◌, arith, lit<, lit≤}
-use Rattle.std.specs.List.{AllByRecursion as All}
+use Rattle.std.specs.List.{AllByRecursion}
 use Rattle.std.proofs.lemmas.Bool.{ltb-true, and_parts}
 use Rattle.trace.specs.declared.event.Action.TheVariants.{Send, Receive}
 use Rattle.trace.specs.Events.{by, does, Sending, Receiving}
@@ -56,7 +56,7 @@ valid = record {
 }
 
 -- each event keeps its own rules
-own : All (EventOk 2 1) happened
+own : AllByRecursion (EventOk 2 1) happened
 own = (
   ((lit< tt, lit< tt, λ e. omega arith, lit< tt, refl), refl),
   (

@@ -2,7 +2,7 @@ ghost use Rattle.std.specs.Prelude.{◌≡◌, ◌<◌};
 ghost use Rattle.lattice.specs.First.{Least};
 ghost use Rattle.lattice.specs.Order.{at};
 ghost use Rattle.gates.specs.Gates.{sides};
-ghost use Rattle.gates.specs.Reply.{rival as isRival, free, reply_to};
+ghost use Rattle.gates.specs.Reply.{rival as is_rival, free, reply_to};
 ghost use Rattle.gates.specs.Rivals.{Says};
 ghost use Rattle.gates.specs.Stable.{Stable};
 ghost use Rattle.gates.specs.Lawfulness;
@@ -15,7 +15,7 @@ impl Gates {
     // Whether van j is a rival of van i at the gate g: one that has passed the gate still counts.
     fn rival(&self, v: &Vector, i: usize, g: usize, j: usize) -> bool
         requires { (i < self.now.vans.count) × ((g < self.now.vans.count) × (j < self.now.vans.count)) }
-        ensures { result ≡ isRival (sides self.now) (at v.now) i g j }
+        ensures { result ≡ is_rival (sides self.now) (at v.now) i g j }
     {
         self.gates.rank(g, j) < self.gates.rank(g, i)
             && self.vans.rank(j, g) <= v.heights()[j] as usize
