@@ -1,5 +1,6 @@
 #!/usr/bin/env python3
-"""Spells the repository's own definitions, lemmas, constructors and fields in snake case, by respell.tsv beside this file.
+"""Spells the repository's own definitions, lemmas, constructors and fields in snake case, by respell.tsv beside this file,
+and by respell-local.tsv what is local to the files of definitions and lemmas, where no name is the checker's own.
 
 usage: python3 tools/respell.py        at the top of the repository, once, after port.py
 
@@ -15,8 +16,8 @@ HERE = os.path.dirname(os.path.realpath(__file__))
 WORD = re.compile(r'[^\s(){}.;,@"«»`]+')
 
 
-def table():
-    with open(os.path.join(HERE, "respell.tsv"), encoding="utf-8") as f:
+def table(name):
+    with open(os.path.join(HERE, name), encoding="utf-8") as f:
         return dict(line.rstrip("\n").split("\t") for line in f)
 
 
@@ -38,7 +39,8 @@ def turned(text, names, mark):
 
 
 def main():
-    names = table()
+    names = table("respell.tsv")
+    local = names | table("respell-local.tsv")
     for folder, dirs, files in os.walk("crates"):
         dirs[:] = sorted(d for d in dirs if d != "out")
         for f in sorted(files):
@@ -51,7 +53,7 @@ def main():
                 continue
             with open(path, encoding="utf-8") as it:
                 old = it.read()
-            new = turned(old, names, mark)
+            new = turned(old, local if os.path.basename(folder) in ("specs", "proofs") else names, mark)
             if new != old:
                 with open(path, "w", encoding="utf-8") as it:
                     it.write(new)

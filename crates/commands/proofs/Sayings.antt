@@ -82,9 +82,9 @@ led {ws = ws} first is same = first ∙ ap (λ w. w ∷ ws) (is ∙ ap name_word
 pub not_behind : {line : List ℕ} {ws : List (List ℕ)} (n : Name) → words line ≡ name_word n ∷ ws → Cannot n ws → (c : Command) → Says line c → ⊥
 not_behind {ws = ws} n are bad c s =
     let p = parts s in
-    let word-is : name_word n ≡ name_word p.name = cc p.are in
-    let behind-is : ws ≡ p.behind = cc p.are in
-    p.fit (subst₂ Cannot (sym (back n) ∙ ap name_of word-is ∙ back p.name) behind-is bad)
+    let word_is : name_word n ≡ name_word p.name = cc p.are in
+    let behind_is : ws ≡ p.behind = cc p.are in
+    p.fit (subst₂ Cannot (sym (back n) ∙ ap name_of word_is ∙ back p.name) behind_is bad)
 
 module _ {line : List ℕ} {ws : List (List ℕ)} where
   pub says_job : {x : Bor (List ℕ)} → words line ≡ name_word Job ∷ ws → Bytes ws x.now → Says line (command.Job x)

@@ -129,8 +129,8 @@ module _ (n : ℕ) (es : List Event) (valid : Valid n es) where
               let ha = before_less n es valid few a b f in
               let i = by es b in
               let last = nth_exists es i (h i) (omega (arith, number_is es b i refl)) (within i (valid.process b hb)) in
-              let past-it = then_past n es valid few a b _ f (number_past n es valid few b _ last.there (sym last.of) (omega (arith, last.is))) in
-              let k = (knows _ (by es a) last.there (valid.process a (omega arith))).only a (omega arith) refl past-it in
+              let past_it = then_past n es valid few a b _ f (number_past n es valid few b _ last.there (sym last.of) (omega (arith, last.is))) in
+              let k = (knows _ (by es a) last.there (valid.process a (omega arith))).only a (omega arith) refl past_it in
               omega (arith, all (by es a) (valid.process a (omega arith)) _ (last_of es h i _ last.there last.of last.is));
         }
 

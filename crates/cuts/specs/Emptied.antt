@@ -162,13 +162,13 @@ module _ (n : ℕ) (es : List Event) (cs : List Channel) (senders : (k : ℕ) �
     view v (past i lt over) = never (λ w up k. omega (arith, up i (omega arith), k.within i lt)) refl
     view v (empty e) = holds e refl
     view v (sender_behind w c f lt q r) =
-        let received-now = received es c (at v c.receiver) in
-        lifts c.sender q (omega (arith, sender_place (at v) c f)) (reaches_above es (sent es c) (sent_mono es c) c.sender received-now (at v c.sender) q lt r)
-        (λ u up k. reaches_least es (sent es c) (sent_mono es c) c.sender received-now q (at u c.sender) r (sender_more v u c f up k)) refl
+        let received_now = received es c (at v c.receiver) in
+        lifts c.sender q (omega (arith, sender_place (at v) c f)) (reaches_above es (sent es c) (sent_mono es c) c.sender received_now (at v c.sender) q lt r)
+        (λ u up k. reaches_least es (sent es c) (sent_mono es c) c.sender received_now q (at u c.sender) r (sender_more v u c f up k)) refl
     view v (receiver_behind w c f lt q r) =
-        let sent-now = sent es c (at v c.sender) in
-        lifts c.receiver q (omega (arith, receiver_place (at v) c f)) (reaches_above es (received es c) (received_mono es c) c.receiver sent-now (at v c.receiver) q lt r)
-        (λ u up k. reaches_least es (received es c) (received_mono es c) c.receiver sent-now q (at u c.receiver) r (receiver_more v u c f up k)) refl
+        let sent_now = sent es c (at v c.sender) in
+        lifts c.receiver q (omega (arith, receiver_place (at v) c f)) (reaches_above es (received es c) (received_mono es c) c.receiver sent_now (at v c.receiver) q lt r)
+        (λ u up k. reaches_least es (received es c) (received_mono es c) c.receiver sent_now q (at u c.receiver) r (receiver_more v u c f up k)) refl
     view v (sender_stuck w c f short) =
         never (λ u up k. omega (arith, short (at u c.sender) (k.within c.sender (sender_place (at v) c f)), sender_more v u c f up k)) refl
     view v (receiver_stuck w c f short) =

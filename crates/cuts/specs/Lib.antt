@@ -4,12 +4,14 @@ pub mod Watched
 pub mod Channels
 pub mod Sides
 pub mod Jobs
-pub mod Closed
+
+-- Lemmas from here on: the proofs of what an impl owes stand in specs/, and no contract cites them.
 pub mod Views
 pub mod Cutting
 pub mod Greatest
-pub mod Watching
+pub mod Closed
 pub mod Wants
-pub mod Emptied
+pub mod Watching
 pub mod Tallies
 pub mod Levels
+pub mod Emptied

@@ -29,22 +29,22 @@ module _ (s : Sides) (h : ℕ → ℕ) where
   pub says_is : (r : Reply) → Says s h r → reply_to s h ≡ r
   says_is _ (never i l le) = cond-true (some past s.n) _ _ (some_true past s.n i l (le-leb (reach s i) (h i) le))
   says_is _ (lift placed i q l quiet here nx) =
-      let i-is : lowest s h ≡ i = first_is pressed 0 s.n i (record {
+      let i_is : lowest s h ≡ i = first_is pressed 0 s.n i (record {
         low = omega arith;
         high = omega arith;
         passes = λ _. contested_from s h i (h i) here;
         before = λ k _ lk. free_from s h k (h k) (quiet k lk);
       }) in
-      let q-is : next s h i ≡ q = first_is (free s h i) (h i + 1) (reach s i) q (record {
+      let q_is : next s h i ≡ q = first_is (free s h i) (h i + 1) (reach s i) q (record {
         low = omega (arith, nx.later);
         high = nx.within;
         passes = λ lq. not_from_false (contested s h i q) (free_from s h i q (nx.free lq));
         before = λ k lo hi. not_from_true (contested s h i k) (contested_from s h i k (nx.passed k (omega arith) hi));
       }) in
       cond-false (some past s.n) _ _ (not_past placed)
-      ∙ ap (λ k. cond (nat_lt k s.n) (Lift (k, next s h k)) Holds) i-is
+      ∙ ap (λ k. cond (nat_lt k s.n) (Lift (k, next s h k)) Holds) i_is
       ∙ cond-true (nat_lt i s.n) _ _ (lt-ltb i s.n l)
-      ∙ ap (λ k. Lift (i, k)) q-is
+      ∙ ap (λ k. Lift (i, k)) q_is
   says_is _ (holds settled) =
       cond-false (some past s.n) _ _ (not_past settled.placed)
       ∙ cond-false (some pressed s.n) _ _ (some_false pressed s.n (λ k l. free_from s h k (h k) (settled.quiet k l)))
@@ -52,11 +52,11 @@ module _ (s : Sides) (h : ℕ → ℕ) where
   -- the lowest van with a rival, and the first free position from its present one on
   pub says_lift : Placed s h → (i q : ℕ) → i < s.n → QuietBelow i → h i < q → Least (free s h i) (h i) s.n q → Says s h (Lift (i, q))
   says_lift placed i q l quiet later least =
-      let rival-at : (p : ℕ) → h i ≤ p → p < q → Contested s h i p = λ p lo hi. contested_then s h i p (not-false (contested s h i p) (least.before p lo hi)) in
-      lift placed i q l (λ k lk. free_then s h k (h k) (quiet k lk)) (rival-at (h i) (omega arith) later) (record {
+      let rival_at : (p : ℕ) → h i ≤ p → p < q → Contested s h i p = λ p lo hi. contested_then s h i p (not-false (contested s h i p) (least.before p lo hi)) in
+      lift placed i q l (λ k lk. free_then s h k (h k) (quiet k lk)) (rival_at (h i) (omega arith) later) (record {
         later = later;
         within = least.high;
-        passed = λ p lo hi. rival-at p (omega arith) hi;
+        passed = λ p lo hi. rival_at p (omega arith) hi;
         free = λ lq. free_then s h i q (not-true (contested s h i q) (least.passes lq));
       })
 

@@ -45,11 +45,11 @@ module _ (s : Sides) (vans : (i : ℕ) → i < s.n → Ranked s.n (s.van i)) (ga
       apart : (i k : ℕ) → i < s.n → k < s.n → taken s h i ≡ taken s h k → i ≡ k
       apart i k li lk e =
           let g = taken s h i in
-          let come-k : position s.n (s.van k) g ≡ h k = ap (position s.n (s.van k)) e ∙ comes k lk in
+          let come_k : position s.n (s.van k) g ≡ h k = ap (position s.n (s.van k)) e ∙ comes k lk in
           ⊎_elim (same (gates g (within i li)) i k li lk)
           (⊎_elim
           (λ lt. absurd (no_rival k g i lk li (sym e) lt (omega (arith, comes i li))))
-          (λ lt. absurd (no_rival i g k li lk refl lt (omega (arith, come-k)))))
+          (λ lt. absurd (no_rival i g k li lk refl lt (omega (arith, come_k)))))
           (cases_order (position s.n (s.gate g) i) (position s.n (s.gate g) k))
 
       -- every gate has a van, so each has one to compare with

@@ -75,19 +75,19 @@ only_messages j x ev _ room long ok (refused _ (no_receiver _ _ none)) = absurd 
 only_messages j x ev _ room long ok (refused _ (no_message _ _ _ breaks)) = breaks
 
 -- one event more is read from `before`, of as many processes as the job has and as wide as its wish wants
-module _ (before : Reader) (j : TraceJob) (n width : ℕ) (same-n : n ≡ processes j) (same_width : width ≡ width_of j.wish) where
+module _ (before : Reader) (j : TraceJob) (n width : ℕ) (same_n : n ≡ processes j) (same_width : width ≡ width_of j.wish) where
   abbrev Breaks : Refusal → Type 0
   Breaks = EventBroken (processes j) (width_of j.wish) before.total (happened j) before.rest.now
 
   -- its record is broken
   pub record_breaks : (r : Refusal) → RecordBroken before.total n width before.rest.now r → Breaks r
-  record_breaks r b = broken (subst₂ (λ m w. RecordBroken before.total m w before.rest.now r) same-n same_width b)
+  record_breaks r b = broken (subst₂ (λ m w. RecordBroken before.total m w before.rest.now r) same_n same_width b)
 
   -- its record was read
   module _ (left : Reader) (p : ℕ) (a : Action) (x : List ℕ) (raw : Raw) (parts : record_with p x a ≡ raw)
       (read : OwnRules n width raw × (before.rest.now ≡ sized_record raw ++ left.rest.now) × (left.total ≡ before.total)) where
     own : OwnRules (processes j) (width_of j.wish) (record_with p x a)
-    own = subst₂ (λ m w. OwnRules m w (record_with p x a)) same-n same_width (subst (OwnRules n width) (sym parts) read.0)
+    own = subst₂ (λ m w. OwnRules m w (record_with p x a)) same_n same_width (subst (OwnRules n width) (sym parts) read.0)
 
     module _ (ev : Event) (is : EventOf p a x ev) where
       rules : EventOk (processes j) (width_of j.wish) ev

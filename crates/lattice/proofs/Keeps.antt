@@ -36,14 +36,14 @@ module _ {holds : Vector → Type 0} {reply : Vector → Reply} (laws : Lawful h
 
   keeps_new : {b : Board} → Fresh b → Keeps [] b
   keeps_new {b} f =
-      let zero-at : (i : ℕ) → i < places → at b.vector i ≡ 0 = λ i hi. ap (λ l. get_or l i 0) f.heights ∙ get_or-replicate places i 0 0 hi in
-      let top-at : (i : ℕ) → i < places → at b.ceilings i ≡ highest = λ i hi. ap (λ l. get_or l i 0) f.ceilings ∙ get_or-replicate places i highest 0 hi in
+      let zero_at : (i : ℕ) → i < places → at b.vector i ≡ 0 = λ i hi. ap (λ l. get_or l i 0) f.heights ∙ get_or-replicate places i 0 0 hi in
+      let top_at : (i : ℕ) → i < places → at b.ceilings i ≡ highest = λ i hi. ap (λ l. get_or l i 0) f.ceilings ∙ get_or-replicate places i highest 0 hi in
       record {
-        below = λ w s i hi. omega (arith, zero-at i hi);
+        below = λ w s i hi. omega (arith, zero_at i hi);
         floors = λ p h t. absurd t;
-        tops = λ p lt. record { within = λ h t. absurd t; given = inl (top-at p lt) };
+        tops = λ p lt. record { within = λ h t. absurd t; given = inl (top_at p lt) };
         judged = tt;
-        inside = λ ne i hi. omega (arith, zero-at i hi);
+        inside = λ ne i hi. omega (arith, zero_at i hi);
         found = λ e. absurd (open_not_found f.verdict e);
         none = λ e. absurd (open_not_none f.verdict e);
         counted = f.count;
@@ -55,7 +55,7 @@ module _ {holds : Vector → Type 0} {reply : Vector → Reply} (laws : Lawful h
 
   -- a call that moves nothing
   keeps_same : {l : History} {b : Board} {e : Entry} → Neutral e → ((w : Vector) → Over holds (e ∷ l) w → Over holds l w) → lifts (e ∷ l) ≡ lifts l → pending_budgets (e ∷ l) ≡ pending_budgets l → Keeps l b → Keeps (e ∷ l) b
-  keeps_same {l} idle earlier same-lifts same-budgets k = record {
+  keeps_same {l} idle earlier same_lifts same_budgets k = record {
     below = λ w s. k.below w (earlier w s);
     floors = λ p h t. k.floors p h (idle.floors l p h t);
     tops = λ p lt. tops_neutral idle l p _ (k.tops p lt);
@@ -63,8 +63,8 @@ module _ {holds : Vector → Type 0} {reply : Vector → Reply} (laws : Lawful h
     inside = k.inside;
     found = k.found;
     none = k.none;
-    counted = k.counted ∙ sym same-lifts;
-    budgets = omega (arith, k.budgets, same-lifts, same-budgets);
+    counted = k.counted ∙ sym same_lifts;
+    budgets = omega (arith, k.budgets, same_lifts, same_budgets);
   }
 
   -- the end of a search, from a board that kept what every call keeps
@@ -128,7 +128,7 @@ module _ {holds : Vector → Type 0} {reply : Vector → Reply} (laws : Lawful h
             (λ (same : at w p ≤ at v p). let stays : max (at v p) h ≡ at v p = omega arith in
             subst holds (sym (same_vector w v (f.vector ∙ ap (set v.heights p) stays ∙ set-get_or v.heights p 0))) (k.found (sym (f.kept fits same) ∙ e)))
             (cases_lt (at v p) (at w p))) (cases_lt (at top p) (at w p));
-        none = λ e. ⊎_elim (λ (high : at top p < at w p). past p acc.0 (λ s high-up sol. omega (arith, high-up p acc.0)))
+        none = λ e. ⊎_elim (λ (high : at top p < at w p). past p acc.0 (λ s high_up sol. omega (arith, high_up p acc.0)))
             (λ fits. shut_more (none₀ (⊎_elim (λ rose. reopened_none b.verdict (sym (f.rose fits rose) ∙ e)) (λ same. sym (f.kept fits same) ∙ e) (cases_lt (at v p) (at w p)))) up (λ i hi. omega arith))
             (cases_lt (at top p) (at w p));
         counted = f.count ∙ k.counted;
@@ -158,7 +158,7 @@ module _ {holds : Vector → Type 0} {reply : Vector → Reply} (laws : Lawful h
         judged = (acc, k.judged);
         inside = λ ne. ⊎_elim (λ over. absurd (ne (f.over over))) (λ fits. each (λ i x. at v i ≤ x) (omega arith) (inside₀ (λ e. ne (f.kept fits ∙ e)))) (cases_lt (at low p) (at v p));
         found = λ e. ⊎_elim (λ over. absurd (found_not_none e (f.over over))) (λ fits. subst holds (sym f.vector) (k.found (sym (f.kept fits) ∙ e))) (cases_lt (at low p) (at v p));
-        none = λ e. ⊎_elim (λ (high : at low p < at v p). past p acc.0 (λ s high-up sol. omega (arith, high-up p acc.0)))
+        none = λ e. ⊎_elim (λ (high : at low p < at v p). past p acc.0 (λ s high_up sol. omega (arith, high_up p acc.0)))
             (λ fits. shut_more (none₀ (sym (f.kept fits) ∙ e)) (λ i hi. omega arith) down) (cases_lt (at low p) (at v p));
         counted = f.count ∙ k.counted;
         budgets = k.budgets;

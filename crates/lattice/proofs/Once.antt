@@ -9,7 +9,7 @@ use Rattle.lattice.specs.declared.condition.Reply.TheVariants.{Holds, Lift, Neve
 use Rattle.lattice.specs.declared.board.Board.{Board}
 use Rattle.lattice.specs.contracts.board.Board.{struct, the_propositions}
 use Rattle.lattice.specs.contracts.vector.Vector.{the_row as vector_row}
-use Rattle.lattice.specs.contracts.verdict.Verdict.{the_row as verdict-row}
+use Rattle.lattice.specs.contracts.verdict.Verdict.{the_row as verdict_row}
 use Rattle.lattice.specs.declared.verdict.Verdict as verdict
 use Rattle.lattice.specs.declared.verdict.Verdict.{Verdict}
 use Rattle.lattice.specs.declared.call.Call.{Call}
@@ -24,7 +24,7 @@ use Rattle.lattice.proofs.Verdicts.{open_not_found, open_not_none, found_not_non
 
 -- boards with the same parts are the same
 same_board : (b c : Board) → b.vector ≡ c.vector → b.ceilings ≡ c.ceilings → b.verdict ≡ c.verdict → b.count ≡ c.count → b ≡ c
-same_board b c e f g h = values_one struct (the_propositions vector_row.coded verdict-row.coded) b c (cc)
+same_board b c e f g h = values_one struct (the_propositions vector_row.coded verdict_row.coded) b c (cc)
 
 fresh_once : {b c : Board} → Fresh b → Fresh c → b ≡ c
 fresh_once {b} {c} f g =

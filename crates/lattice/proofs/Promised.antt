@@ -14,7 +14,7 @@ use Rattle.lattice.specs.Laws.{Lawful}
 use Rattle.lattice.specs.Refusals.{Accepted, Refused}
 use Rattle.lattice.specs.Steps.{IsOpen, IsFound, IsNone, answer_of, reading, FloorStep, CeilingStep, Climb, Liftable, Ends, holds as held, never, above, spent, RunStep, found, none, searched}
 use Rattle.lattice.specs.History.{Entry, History, floor, ceiling, run, after, Step, floored, floor_refused, ceiled, ceiling_refused, ran, answered, Reached, new, called}
-use Rattle.lattice.specs.Promises.{Solution, LeastSolution, Unsolvable, Decides, found as decides-found, none as decides-none, NextLift, Tells, pending_open as open-pending, found_found, none_none, RunPromise, Latest, Promises, Throughout}
+use Rattle.lattice.specs.Promises.{Solution, LeastSolution, Unsolvable, Decides, found as decides_found, none as decides_none, NextLift, Tells, pending_open as open_pending, found_found, none_none, RunPromise, Latest, Promises, Throughout}
 use Rattle.lattice.specs.Calls.{Kept, RunCall, BoundCall}
 use Rattle.lattice.proofs.Heights.{total_strict}
 use Rattle.lattice.proofs.Verdicts.{open_not_found, open_not_none, found_not_none, pending_open}
@@ -32,15 +32,15 @@ step_after (ran s) = refl
 step_after answered = refl
 
 tells : (v : Verdict) → Tells (answer_of v) v
-tells verdict.TheVariants.Open = open-pending
+tells verdict.TheVariants.Open = open_pending
 tells verdict.TheVariants.Found = found_found
 tells verdict.TheVariants.None = none_none
 
 -- a verdict that is not open decides
 decides : {holds : Vector → Type 0} {l : History} {w : Vector} (v : Verdict) → (IsOpen v → ⊥) → (IsFound v → Solution holds l w) → (IsNone v → Unsolvable holds l) → Decides holds l (answer_of v)
 decides verdict.TheVariants.Open closed solves nothing = absurd (closed refl)
-decides {w = w} verdict.TheVariants.Found closed solves nothing = decides-found w (solves refl)
-decides verdict.TheVariants.None closed solves nothing = decides-none (nothing refl)
+decides {w = w} verdict.TheVariants.Found closed solves nothing = decides_found w (solves refl)
+decides verdict.TheVariants.None closed solves nothing = decides_none (nothing refl)
 
 module _ {holds : Vector → Type 0} {reply : Vector → Reply} (laws : Lawful holds reply) where
   module _ {l : History} {b : Board} (k : Keeps laws l b) where

@@ -1,7 +1,7 @@
 ghost use Rattle.std.specs.Prelude.{◌≡◌};
 
-// What lends a content, as a reference to it does. An impl with a lifetime parameter gets no generated proof of
-// a trait's law, so a condition that borrows its content is written over any lender in place of a reference.
+// What lends a content, as a reference to it does. The kit with which this was written proved no law of an impl with
+// a lifetime parameter, so a condition that borrows its content is written over any lender in place of a reference.
 pub trait Lends {
     type Content;
 

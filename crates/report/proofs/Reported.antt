@@ -47,7 +47,7 @@ one_report file _ _ (found f v good is earliest) (none g also too never) =
 one_report file _ _ (none f good is never) (refused q y) = absurd (not_broken f file good is q y)
 one_report file _ _ (none f good is never) (found g w also too second) =
     absurd (never w (subst (λ form. Solves form w) (one_job g f also good (too ∙ sym is)) second.solves))
-one_report file _ _ (none f good is never) (none g also too too-none) = ap (λ form. first_line (letter_of form) verdict.None) (one_job f g good also (is ∙ sym too))
+one_report file _ _ (none f good is never) (none g also too too_none) = ap (λ form. first_line (letter_of form) verdict.None) (one_job f g good also (is ∙ sym too))
 
 -- the text of a job on which the search has settled
 module _ (file : List ℕ) (j : Job) (form : Form) (good : WellFormed form) (is : encoded form ≡ file) (held : Held j form) where

@@ -43,13 +43,13 @@ module _ (n : ℕ) (van van' gate gate' : ℕ → ℕ → ℕ) (vans : Agrees n 
   pub stable_too : Stable (record { n = n; van = van; gate = gate }) h → Stable (record { n = n; van = van'; gate = gate' }) h
   stable_too stable =
       let taken : (i : ℕ) → i < n → van i (h i) ≡ van' i (h i) = λ i l. vans i (h i) l (stable.placed i l) in
-      let van-same : (i x : ℕ) → i < n → position n (van i) x ≡ position n (van' i) x = λ i x l. same_position n (van i) (van' i) (λ p lp. vans i p l lp) x in
+      let van_same : (i x : ℕ) → i < n → position n (van i) x ≡ position n (van' i) x = λ i x l. same_position n (van i) (van' i) (λ p lp. vans i p l lp) x in
       let gate_same : (g x : ℕ) → g < n → position n (gate g) x ≡ position n (gate' g) x = λ g x l. same_position n (gate g) (gate' g) (λ p lp. gates g p l lp) x in
       record {
         placed = stable.placed;
         apart = λ i k li lk same. stable.apart i k li lk (taken i li ∙ same ∙ sym (taken k lk));
         content = λ i g li lg likes wants. stable.content i g li lg
-            (subst₂ (λ (a : ℕ) (b : ℕ). a < b) (sym (van-same i g li)) (sym (van-same i (van i (h i)) li ∙ ap (position n (van' i)) (taken i li))) likes)
+            (subst₂ (λ (a : ℕ) (b : ℕ). a < b) (sym (van_same i g li)) (sym (van_same i (van i (h i)) li ∙ ap (position n (van' i)) (taken i li))) likes)
             (λ k lk has. subst₂ (λ (a : ℕ) (b : ℕ). a < b) (sym (gate_same g i lg)) (sym (gate_same g k lg)) (wants k lk (sym (taken k lk) ∙ has)));
       }
 

@@ -61,11 +61,11 @@ module _ (n : ℕ) (es : List Event) (ev : Event) where
 
   pub grown : Valid n es → Fits n es ev → Valid n (more es ev)
   grown v fits =
-      let new-send : (s : Sending (more es ev)) → s.at ≡ length es → (t : Sending es) → t.message ≡ s.message → ⊥ =
+      let new_send : (s : Sending (more es ev)) → s.at ≡ length es → (t : Sending es) → t.message ≡ s.message → ⊥ =
       λ s at t same. not_sent n es ev fits s.to s.message (last_is s.at _ at s.is) t same in
-      let new-receive : (r : Receiving (more es ev)) → r.at ≡ length es → (q : Receiving es) → q.message ≡ r.message → ⊥ =
+      let new_receive : (r : Receiving (more es ev)) → r.at ≡ length es → (q : Receiving es) → q.message ≡ r.message → ⊥ =
       λ r at q same. not_received n es ev fits r.message (last_is r.at _ at r.is) q same in
-      let no-bad : (s : Sending (more es ev)) → s.at ≡ length es → NoReceiver n ev.process (Send s.to s.message) → ⊥ =
+      let no_bad : (s : Sending (more es ev)) → s.at ≡ length es → NoReceiver n ev.process (Send s.to s.message) → ⊥ =
       λ s at x. fits.receiver (subst (NoReceiver n ev.process) (sym (last_is s.at _ at s.is)) x) in
       record {
         few = omega (arith, longer es ev, fits.room);
@@ -77,32 +77,32 @@ module _ (n : ℕ) (es : List Event) (ev : Event) where
         receiver = λ s.
             ⊎_elim
             (λ lt. v.receiver (old_send es ev s lt))
-            (λ at. ⊎_elim (λ h. h) (λ h. absurd (no-bad s at (absent h))) (cases_lt s.to n))
+            (λ at. ⊎_elim (λ h. h) (λ h. absurd (no_bad s at (absent h))) (cases_lt s.to n))
             (where_is es ev s.at s.within);
         other = λ s e.
             ⊎_elim
             (λ lt. v.other (old_send es ev s lt) (e ∙ old_by es ev s.at lt))
-            (λ at. no-bad s at (itself (e ∙ last_by es ev s.at at)))
+            (λ at. no_bad s at (itself (e ∙ last_by es ev s.at at)))
             (where_is es ev s.at s.within);
         sent_once = λ s t e.
             ⊎_elim
             (λ a.
             ⊎_elim
             (λ b. v.sent_once (old_send es ev s a) (old_send es ev t b) e)
-            (λ b. absurd (new-send t b (old_send es ev s a) e))
+            (λ b. absurd (new_send t b (old_send es ev s a) e))
             (where_is es ev t.at t.within))
             (λ a.
-            ⊎_elim (λ b. absurd (new-send s a (old_send es ev t b) (sym e))) (λ b. a ∙ sym b) (where_is es ev t.at t.within))
+            ⊎_elim (λ b. absurd (new_send s a (old_send es ev t b) (sym e))) (λ b. a ∙ sym b) (where_is es ev t.at t.within))
             (where_is es ev s.at s.within);
         received_once = λ r q e.
             ⊎_elim
             (λ a.
             ⊎_elim
             (λ b. v.received_once (old_receive es ev r a) (old_receive es ev q b) e)
-            (λ b. absurd (new-receive q b (old_receive es ev r a) e))
+            (λ b. absurd (new_receive q b (old_receive es ev r a) e))
             (where_is es ev q.at q.within))
             (λ a.
-            ⊎_elim (λ b. absurd (new-receive r a (old_receive es ev q b) (sym e))) (λ b. a ∙ sym b) (where_is es ev q.at q.within))
+            ⊎_elim (λ b. absurd (new_receive r a (old_receive es ev q b) (sym e))) (λ b. a ∙ sym b) (where_is es ev q.at q.within))
             (where_is es ev r.at r.within);
         sent_first = λ r.
             ⊎_elim

@@ -154,14 +154,14 @@ module _ (n : ℕ) (es : List Event) (ev : Event) (counts places sends receives 
       Noted ev (length es) sends receives sends' receives' →
       Whole n (more es ev) (set counts ev.process (get_or counts ev.process 0 + 1)) (set places (ev.process * 1024 + get_or counts ev.process 0) (length es))
       sends' receives' (cs ++ ticked es ev.process (sent_by es ev.action) ∷ [])
-  whole_more few counts-long places-long w fits sends' receives' noted =
+  whole_more few counts_long places_long w fits sends' receives' noted =
       let p = ev.process in
       let own : p < 16 = omega (arith, fits.process) in
       let counted = w.counted p own in
       let low : total es p < 1024 = omega (arith, count_le es p (length es), fits.room) in
       record {
         valid = grown n es ev w.valid fits;
-        counted = counted_more n es ev counts counts-long own w.counted;
+        counted = counted_more n es ev counts counts_long own w.counted;
         indexed = indexed_more n es ev w.valid places (p * 1024 + get_or counts p 0) (omega arith) (omega arith) low w.indexed;
         sends_at = subst (SendsAt (more es ev)) (sym noted.sends_is) (sends_more n es ev fits sends w.sends_at ev.action refl noted.sent);
         receives_at = subst (ReceivesAt (more es ev)) (sym noted.receives_is) (receives_more n es ev fits receives w.receives_at ev.action refl noted.received);
@@ -173,10 +173,10 @@ module _ (n : ℕ) (es : List Event) (ev : Event) (counts places sends receives 
       (e : ℕ) (es' : List Event) (sends' receives' : List ℕ) (cs' : List (List ℕ)) → e ≡ length es → es' ≡ more es ev → Noted ev e sends receives sends' receives' →
       cs' ≡ cs ++ ticked es ev.process (sent_by es ev.action) ∷ [] →
       Whole n es' (set counts ev.process (get_or counts ev.process 0 + 1)) (set places (ev.process * 1024 + get_or counts ev.process 0) e) sends' receives' cs'
-  pushed few counts-long places-long w fits e es' sends' receives' cs' at items noted clocks =
+  pushed few counts_long places_long w fits e es' sends' receives' cs' at items noted clocks =
       let counts' = set counts ev.process (get_or counts ev.process 0 + 1) in
       let places' : ℕ → List ℕ = λ x. set places (ev.process * 1024 + get_or counts ev.process 0) x in
-      let known = whole_more few counts-long places-long w fits sends' receives' (subst (λ (x : ℕ). Noted ev x sends receives sends' receives') at noted) in
+      let known = whole_more few counts_long places_long w fits sends' receives' (subst (λ (x : ℕ). Noted ev x sends receives sends' receives') at noted) in
       subst (λ (x : ℕ). Whole n es' counts' (places' x) sends' receives' cs') (sym at)
       (subst (λ x. Whole n x counts' (places' (length es)) sends' receives' cs') (sym items)
       (subst (λ x. Whole n (more es ev) counts' (places' (length es)) sends' receives' x) (sym clocks) known))
