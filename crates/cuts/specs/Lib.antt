@@ -4,7 +4,6 @@ pub mod Watched
 pub mod Channels
 pub mod Sides
 pub mod Jobs
-
 -- Lemmas from here on: the proofs of what an impl owes stand in specs/, and no contract cites them.
 pub mod Views
 pub mod Cutting
