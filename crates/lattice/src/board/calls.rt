@@ -86,6 +86,7 @@ impl Board {
             Verdict::Found => Answer::Found,
             Verdict::None => Answer::None,
             Verdict::Open => {
+                // Counted by hand: a run of budget lifts makes one probe more, and ends by the reply to it, so no range is its turns.
                 let mut used = 0u32;
                 loop {
                     match condition.probe(&self.vector) {
