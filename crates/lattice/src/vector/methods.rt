@@ -1,6 +1,6 @@
 ghost use Rattle.std.specs.Prelude.{◌≡◌, ◌<◌, ◌≤◌, replicate, MatchResult};
 ghost use Rattle.lattice.specs.Limits.{places, highest};
-ghost use Rattle.lattice.specs.Order.{at, With};
+ghost use Rattle.lattice.specs.Order.{heights_of, at, With};
 ghost use Rattle.lattice.specs.Refusals.{no_place_refusal, FirstTooHigh};
 
 use crate::refuse::refuse;
@@ -10,7 +10,7 @@ use refusal::{Refusal, Rule};
 impl Vector {
     // The vector with these heights; the first place that is too high is refused.
     pub fn new(heights: [u32; PLACES]) -> Result<Vector, Refusal>
-        ensures { MatchResult result (λ v. v.heights ≡ heights) (λ e. FirstTooHigh heights e) }
+        ensures { MatchResult result (λ v. heights_of v ≡ heights) (λ e. FirstTooHigh heights e) }
     {
         match heights.iter().position(|&height| height > HIGHEST) {
             Some(place) => Err(refuse(Rule::Height, place)),
@@ -19,7 +19,7 @@ impl Vector {
     }
 
     pub fn heights(&self) -> &[u32; PLACES]
-        ensures { result.now ≡ self.now.heights }
+        ensures { result.now ≡ heights_of self.now }
     {
         &self.heights
     }
@@ -37,7 +37,7 @@ impl Vector {
     // The vector that has one height everywhere.
     pub(crate) fn level(height: u32) -> Vector
         requires { height ≤ highest }
-        ensures { result.heights ≡ replicate places height }
+        ensures { heights_of result ≡ replicate places height }
     {
         Vector {
             heights: [height; PLACES],
