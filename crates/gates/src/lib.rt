@@ -3,3 +3,4 @@
 pub mod fault;
 pub mod gates;
 mod orders;
+pub mod side;
