@@ -1,5 +1,5 @@
 ghost use Rattle.std.specs.Prelude.{Some};
-ghost use Rattle.std.specs.Prelude.{codes};
+ghost use Rattle.gates.specs.Orders.{fault_text};
 
 use std::error::Error;
 use std::fmt;
@@ -12,6 +12,8 @@ pub enum OrderFault {
 }
 
 impl fmt::Display for OrderFault {
+    ghost output = { λ e. Some (fault_text e) };
+
     fn fmt<W: fmt::Write>(&self, f: &mut fmt::Formatter<W>) -> fmt::Result {
         match self {
             OrderFault::Row => write!(f, "there is no such row"),

@@ -4,7 +4,7 @@ ghost use Rattle.gates.specs.Gates.{sides, Plain, Started, RowPut, GateAt, Gates
 
 use crate::fault::OrderFault;
 use crate::gates::Gates;
-use crate::orders::{MOST, Orders};
+use crate::order::{MOST, Order};
 use crate::side::Side;
 
 impl Gates {
@@ -27,9 +27,11 @@ impl Gates {
         requires { count ≤ most }
         ensures { Plain count result }
     {
+        let orders = [Order::plain(count); MOST];
         Gates {
-            vans: Orders::plain(count),
-            gates: Orders::plain(count),
+            count,
+            vans: orders,
+            gates: orders,
         }
     }
 
@@ -37,25 +39,30 @@ impl Gates {
     pub fn put(&mut self, side: Side, row: usize, order: &[u8]) -> Result<(), OrderFault>
         ensures { RowPut side row order.now self.old result self.new }
     {
-        match side {
-            Side::Vans => self.vans.put(row, order),
-            Side::Gates => self.gates.put(row, order),
+        if row >= self.count {
+            return Err(OrderFault::Row);
         }
+        let order = Order::new(self.count, order)?;
+        match side {
+            Side::Vans => self.vans[row] = order,
+            Side::Gates => self.gates[row] = order,
+        }
+        Ok(())
     }
 
     // How many vans there are, and how many gates.
     pub fn count(&self) -> usize
         ensures { result ≡ (sides self.now).n }
     {
-        self.vans.count()
+        self.count
     }
 
     // The gate at a position of a van's order.
     pub fn gate_at(&self, van: usize, position: usize) -> Option<usize>
         ensures { GateAt self.now van position result }
     {
-        let n = self.count();
-        (van < n && position < n).then(|| self.vans.liked(van, position))
+        let order = self.vans[..self.count].get(van)?;
+        order.numbers().get(position).map(|&gate| gate as usize)
     }
 
     // What else holds of the condition: stability by rivals, free places, and a depot without vans.
