@@ -4,7 +4,7 @@ use Rattle.std.proofs.Common.{◌≡◌, ℕ, ◌+◌, ◌-◌, ◌<◌, List, [
 use Rattle.std.proofs.lemmas.List.{get_or-map, get_or-set_same, get_or-set_other, get_or-take, get_or-drop, length-map, length-take-le, length-drop, map-set}
 use Rattle.gates.specs.declared.order.Order.{Order}
 use Rattle.gates.specs.Orders.{most, number_at, position, Whole, OrderOf, Put}
-use Rattle.gates.specs.Gates.{rows}
+use Rattle.gates.specs.Gates.{rows_of}
 use Rattle.gates.specs.Positions.{Ranked, ranked_from, stands}
 
 -- the first p numbers of the order are copied to the row, and each has its position among the ranks, where others have n
@@ -57,12 +57,12 @@ ascending_sound n row each =
     record { whole = whole; ranked = λ x l. each x l ∙ sym (subst (λ y. position n order y ≡ x) (each x l) (whole.once x l)) }
 
 -- the row of an order that stands in a table
-pub row_at : (table : List Order) (i : ℕ) (o : Order) → i < length table → get_or (rows table) i [] ≡ (get_or table i o).numbers
+pub row_at : (table : List Order) (i : ℕ) (o : Order) → i < length table → get_or (rows_of table) i [] ≡ (get_or table i o).numbers
 row_at table i o lt = get_or-map (λ (x : Order). x.numbers) table i o [] lt
 
 -- so the rank of a number in that order is its position in that row
 pub rank_at : (n : ℕ) (table : List Order) (i : ℕ) (o : Order) (x r : ℕ) → All (λ (y : Order). y.count ≡ n) table → i < length table →
-    r ≡ position (get_or table i o).count (λ p. get_or (get_or table i o).numbers p 0) x → r ≡ position n (number_at (rows table) i) x
+    r ≡ position (get_or table i o).count (λ p. get_or (get_or table i o).numbers p 0) x → r ≡ position n (number_at (rows_of table) i) x
 rank_at n table i o x r even lt at =
     at ∙ ap (λ k. position k (λ p. get_or (get_or table i o).numbers p 0) x) (even i o lt)
     ∙ ap (λ row. position n (λ p. get_or row p 0) x) (sym (row_at table i o lt))
@@ -81,7 +81,7 @@ module _ (n : ℕ) (table : List Order) (i : ℕ) (o : Order) (even : All (λ (y
   pub left_long : length left ≡ n - from
   left_long = length-take-le (length numbers - from) (drop from numbers) (omega (arith, length-drop from numbers)) ∙ ap (λ (k : ℕ). k - from) long
 
-  pub left_at : (past : ℕ) → past < length left → get_or left past 0 ≡ number_at (rows table) i (from + past)
+  pub left_at : (past : ℕ) → past < length left → get_or left past 0 ≡ number_at (rows_of table) i (from + past)
   left_at past l =
       let x = get_or table i o in
       get_or-take (length numbers - from) (drop from numbers) past 0 (omega (arith, left_long, long)) ∙ get_or-drop from numbers past 0
@@ -90,12 +90,12 @@ module _ (n : ℕ) (table : List Order) (i : ℕ) (o : Order) (even : All (λ (y
 
 -- an order that is put in a table takes one row, and no other
 pub put_row : (n : ℕ) (table : List Order) (i : ℕ) (o : Order) (list : List ℕ) → i < length table → i < n → OrderOf n list →
-    ((p : ℕ) → p < n → get_or o.numbers p 0 ≡ get_or list p 0) → Put n i list (number_at (rows table)) (number_at (rows (set table i o)))
+    ((p : ℕ) → p < n → get_or o.numbers p 0 ≡ get_or list p 0) → Put n i list (number_at (rows_of table)) (number_at (rows_of (set table i o)))
 put_row n table i o list lt inside order same =
-    let put : rows (set table i o) ≡ set (rows table) i o.numbers = map-set (λ (x : Order). x.numbers) table i o in
+    let put : rows_of (set table i o) ≡ set (rows_of table) i o.numbers = map-set (λ (x : Order). x.numbers) table i o in
     record {
       row = inside;
       order = order;
-      here = λ p l. ap (λ t. number_at t i p) put ∙ ap (λ r. get_or r p 0) (get_or-set_same (rows table) i o.numbers [] (omega (arith, length-map table (λ (x : Order). x.numbers)))) ∙ same p l;
-      others = λ k p ne. ap (λ t. number_at t k p) put ∙ ap (λ r. get_or r p 0) (get_or-set_other (rows table) i k o.numbers [] ne);
+      here = λ p l. ap (λ t. number_at t i p) put ∙ ap (λ r. get_or r p 0) (get_or-set_same (rows_of table) i o.numbers [] (omega (arith, length-map table (λ (x : Order). x.numbers)))) ∙ same p l;
+      others = λ k p ne. ap (λ t. number_at t k p) put ∙ ap (λ r. get_or r p 0) (get_or-set_other (rows_of table) i k o.numbers [] ne);
     }

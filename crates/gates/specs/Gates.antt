@@ -15,12 +15,12 @@ use Rattle.gates.specs.Rivals.{Settled, Says}
 use Rattle.gates.specs.Reply.{reply_to}
 
 -- the numbers of each order of a table
-abbrev pub rows : List Order → List (List ℕ)
-rows table = map (λ (o : Order). o.numbers) table
+abbrev pub rows_of : List Order → List (List ℕ)
+rows_of table = map (λ (o : Order). o.numbers) table
 
 -- the orders that the two tables hold; numbers from n on mean nothing
 abbrev pub sides : Gates → Sides
-sides m = record { n = m.count; van = number_at (rows m.vans); gate = number_at (rows m.gates) }
+sides m = record { n = m.count; van = number_at (rows_of m.vans); gate = number_at (rows_of m.gates) }
 
 -- n vans and n gates, with the order 0, 1, 2 and so on for each
 pub record Plain (n : ℕ) (m : Gates) : Type 0 where
@@ -45,7 +45,7 @@ other_of side.Gates m = m.vans
 abbrev pub RowPut : Side → ℕ → List ℕ → Gates → Result (Unit {0}) OrderFault → Gates → Type 0
 RowPut s i list m r m' =
     MatchResult r
-    (λ _. Put (sides m).n i list (number_at (rows (table_of s m))) (number_at (rows (table_of s m'))) × ((sides m').n ≡ (sides m).n) × (other_of s m' ≡ other_of s m))
+    (λ _. Put (sides m).n i list (number_at (rows_of (table_of s m))) (number_at (rows_of (table_of s m'))) × ((sides m').n ≡ (sides m).n) × (other_of s m' ≡ other_of s m))
     (λ e. Unfit (sides m).n i list e × (m' ≡ m))
 
 -- the gate at a position of van i's order, where there is such a van and such a position
