@@ -1,7 +1,7 @@
-ghost use Rattle.std.specs.Prelude.{◌≡◌, ◌≢◌, Some, MatchResult, codes};
+ghost use Rattle.std.specs.Prelude.{◌≡◌, ◌≢◌, Some, MatchResult};
 ghost use Rattle.commands.specs.Commands.{asked_word};
-ghost use Rattle.commands.specs.declared.command.Asked.{Asked as TheAsked};
 ghost use Rattle.commands.specs.Faults.{fault_text};
+ghost use Rattle.commands.specs.declared.command.Asked.{Asked as TheAsked};
 
 use std::error::Error;
 use std::fmt;
@@ -14,6 +14,24 @@ pub enum Asked {
     Watched,
     Channels,
     Gates,
+}
+
+// By its name.
+impl TryFrom<&[u8]> for Asked {
+    type Error = LineFault;
+
+    ghost try_from_gives = { λ word r. MatchResult r (λ c. word.now ≡ asked_word c) (λ _. (c : TheAsked) → word.now ≢ asked_word c) };
+
+    fn try_from(word: &[u8]) -> Result<Asked, LineFault> {
+        match word {
+            b"job" => Ok(Asked::Job),
+            b"consistent" => Ok(Asked::Consistent),
+            b"watched" => Ok(Asked::Watched),
+            b"channels" => Ok(Asked::Channels),
+            b"gates" => Ok(Asked::Gates),
+            _ => Err(LineFault::Condition),
+        }
+    }
 }
 
 // What a line of a replay says. The bytes of a job are still in hexadecimal digits.
@@ -57,20 +75,3 @@ impl fmt::Display for LineFault {
 }
 
 impl Error for LineFault {}
-
-impl TryFrom<&[u8]> for Asked {
-    type Error = LineFault;
-
-    ghost try_from_gives = { λ word r. MatchResult r (λ c. word.now ≡ asked_word c) (λ _. (c : TheAsked) → word.now ≢ asked_word c) };
-
-    fn try_from(word: &[u8]) -> Result<Asked, LineFault> {
-        match word {
-            b"job" => Ok(Asked::Job),
-            b"consistent" => Ok(Asked::Consistent),
-            b"watched" => Ok(Asked::Watched),
-            b"channels" => Ok(Asked::Channels),
-            b"gates" => Ok(Asked::Gates),
-            _ => Err(LineFault::Condition),
-        }
-    }
-}
