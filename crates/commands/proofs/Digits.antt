@@ -1,5 +1,5 @@
 -- What std reads in a word of digits alone. Assumes nothing.
-use Rattle.std.proofs.Common.{◌≡◌, ℕ, suc, ◌+◌, ◌^◌, ◌<◌, ◌≤◌, true, ◌&&◌, Option, Some, None, Result, Ok, Err, List, [], ◌∷◌, MatchOption, MatchResult, Bor, refl, ap, ◌∙◌, subst, sym, arith, rules}
+use Rattle.std.proofs.Common.{◌≡◌, ℕ, suc, ◌^◌, true, ◌&&◌, Some, None, Result, Ok, Err, List, [], ◌∷◌, MatchOption, MatchResult, Bor, refl, ap, ◌∙◌, sym, arith, rules}
 use Rattle.std.specs.List.{list_all}
 use Rattle.std.specs.Result.{result_ok}
 use Rattle.std.specs.Str.{IsUtf8}
@@ -8,7 +8,6 @@ use Rattle.std.proofs.lemmas.Str.{IsUtf8-from_ascii}
 use Rattle.std.proofs.lemmas.Str.Parse.{IsNumeralModel, numerals_by_fold, parse_digits}
 use Rattle.std.proofs.lemmas.Fmt.{IsAscii-from_digits}
 use Rattle.commands.specs.Words.{is_digit, all_digits, value_on, Writes}
-use Rattle.commands.specs.Behind.{Number, NoNumber}
 
 own : IsNumeralModel (λ ds. all_digits ds ≡ true) (value_on 0)
 own = numerals_by_fold _ (search rules) value_on (search rules)

@@ -9,7 +9,7 @@ use Rattle.commands.specs.declared.command.Command.TheVariants as command
 use Rattle.commands.specs.Words.{words, Writes}
 use Rattle.commands.specs.Commands as says
 use Rattle.commands.specs.Commands.{Says, EachWrites, asked_word, most32, most64}
-use Rattle.commands.specs.Behind.{Say, SayNone, Begin, Heights, NoHeights}
+use Rattle.commands.specs.Behind.{SayNone, Begin, Heights}
 use Rattle.commands.proofs.Heights.{each_length}
 
 -- the names of the commands
@@ -93,39 +93,42 @@ pub optional : {after left : List (List ℕ)} (r : Option (Bor (List ℕ))) (x n
 optional {left = left} (Some w) x none are is empty = inl (are ∙ ap (λ b. b.now ∷ left) (sym is))
 optional None x none are is empty = inr (are.0, are.1, ap (λ b. b.now) is ∙ empty)
 
--- behind the first word
-module _ {ws after : List (List ℕ)} {word : List ℕ} (first : ws ≡ word ∷ after) where
-  pub no_name : ((n : Name) → word ≢ name_word n) → SayNone ws
+-- behind the first word, which was read off
+module _ (ws after : List (List ℕ)) {r : Option (Bor (List ℕ))} {name : Bor (List ℕ)} (steps : MatchOption r ((ws ≡ []) × (after ≡ [])) (λ w. ws ≡ w.now ∷ after)) (some : r ≡ Some name) where
+  first : ws ≡ name.now ∷ after
+  first = rw some at steps
+
+  pub no_name : ((n : Name) → name.now ≢ name_word n) → SayNone ws
   no_name none line c of s = let p = parts s in none p.name (cc (first, of, p.are))
 
-  pub not_behind : (n : Name) → word ≡ name_word n → Cannot n after → SayNone ws
+  pub not_behind : (n : Name) → name.now ≡ name_word n → Cannot n after → SayNone ws
   not_behind n is bad line c of s =
       let p = parts s in
       let word_is : name_word n ≡ name_word p.name = cc (first, of, is, p.are) in
       let behind_is : after ≡ p.behind = cc (first, of, p.are) in
       p.fit (subst₂ Cannot (sym (back n) ∙ ap name_of word_is ∙ back p.name) behind_is bad)
 
-  pub begins_job : (x : Bor (List ℕ)) (left : List (List ℕ)) → word ≡ codes "job" → (after ≡ x.now ∷ left) ⊎ ((after ≡ []) × (left ≡ []) × (x.now ≡ [])) → Begin ws (command.Job x) left
+  pub begins_job : (x : Bor (List ℕ)) (left : List (List ℕ)) → name.now ≡ codes "job" → (after ≡ x.now ∷ left) ⊎ ((after ≡ []) × (left ≡ []) × (x.now ≡ [])) → Begin ws (command.Job x) left
   begins_job x left is (inl e) = (λ end line of. says.job (cc (of, first, is, e, end)), λ more. not_behind Job is (λ n. absurd (cc (e, n)), λ a n. more (cc (e, n))))
   begins_job x left is (inr (e, end, none)) = (λ _ line of. says.no_bytes (cc (of, first, is, e)) none, λ more. absurd (more end))
 
-  pub begins_new : word ≡ codes "new" → Begin ws command.New after
+  pub begins_new : name.now ≡ codes "new" → Begin ws command.New after
   begins_new is = (λ end line of. says.new (cc (of, first, is, end)), not_behind New is)
 
-  pub begins_read : word ≡ codes "read" → Begin ws command.Read after
+  pub begins_read : name.now ≡ codes "read" → Begin ws command.Read after
   begins_read is = (λ end line of. says.read (cc (of, first, is, end)), not_behind Read is)
 
-  pub begins_clocks : word ≡ codes "clocks" → Begin ws command.Clocks after
+  pub begins_clocks : name.now ≡ codes "clocks" → Begin ws command.Clocks after
   begins_clocks is = (λ end line of. says.clocks (cc (of, first, is, end)), not_behind Clocks is)
 
   module _ {left : List (List ℕ)} {a : List ℕ} (e : after ≡ a ∷ left) where
-    pub begins_run : {v : ℕ} → word ≡ codes "run" → Writes a most32 v → Begin ws (command.Run v) left
+    pub begins_run : {v : ℕ} → name.now ≡ codes "run" → Writes a most32 v → Begin ws (command.Run v) left
     begins_run is w = (λ end line of. says.run a (cc (of, first, is, e, end)) w, λ more. not_behind Run is (λ b v n _. more (cc (e, n))))
 
-    pub begins_report : {v : ℕ} → word ≡ codes "report" → Writes a most64 v → Begin ws (command.Report v) left
+    pub begins_report : {v : ℕ} → name.now ≡ codes "report" → Writes a most64 v → Begin ws (command.Report v) left
     begins_report is w = (λ end line of. says.report a (cc (of, first, is, e, end)) w, λ more. not_behind Report is (λ b v n _. more (cc (e, n))))
 
-    pub begins_probe : {c : Asked} {hs : List ℕ} {end : List (List ℕ)} → word ≡ codes "probe" → a ≡ asked_word c → Heights left hs end → Begin ws (command.Probe c hs) end
+    pub begins_probe : {c : Asked} {hs : List ℕ} {end : List (List ℕ)} → name.now ≡ codes "probe" → a ≡ asked_word c → Heights left hs end → Begin ws (command.Probe c hs) end
     begins_probe {c} {hs} {end} is asked h = (
       λ none line of.
           let e2 = append-nil h.read in
@@ -141,8 +144,8 @@ module _ {ws after : List (List ℕ)} {word : List ℕ} (first : ws ≡ word ∷
     )
 
     module _ {last : List (List ℕ)} {b : List ℕ} (f : left ≡ b ∷ last) where
-      pub begins_floor : {p h : ℕ} → word ≡ codes "floor" → Writes a most64 p → Writes b most32 h → Begin ws (command.Floor p h) last
+      pub begins_floor : {p h : ℕ} → name.now ≡ codes "floor" → Writes a most64 p → Writes b most32 h → Begin ws (command.Floor p h) last
       begins_floor is v w = (λ end line of. says.floor a b (cc (of, first, is, e, f, end)) v w, λ more. not_behind Floor is (λ a2 b2 p2 h2 n _ _. more (cc (e, f, n))))
 
-      pub begins_ceiling : {p h : ℕ} → word ≡ codes "ceiling" → Writes a most64 p → Writes b most32 h → Begin ws (command.Ceiling p h) last
+      pub begins_ceiling : {p h : ℕ} → name.now ≡ codes "ceiling" → Writes a most64 p → Writes b most32 h → Begin ws (command.Ceiling p h) last
       begins_ceiling is v w = (λ end line of. says.ceiling a b (cc (of, first, is, e, f, end)) v w, λ more. not_behind Ceiling is (λ a2 b2 p2 h2 n _ _. more (cc (e, f, n))))

@@ -1,6 +1,5 @@
-use Rattle.std.proofs.Common.{rules, tests, ◌≡◌, Ok, Err, Some, None, Option, Result, MatchOption, MatchResult, ℕ, true, false, List, [], ◌∷◌, refl, sym, ap, ◌∙◌, Bor, subst}
+use Rattle.std.proofs.Common.{rules, tests, ◌≡◌, true, sym, ◌∙◌, subst}
 use Rattle.std.specs.List.{list_all}
-use Rattle.std.specs.Result.{result_ok}
 use Rattle.std.proofs.lemmas.Bool.{both_ways}
 use Rattle.std.proofs.lemmas.Iterator.{YieldsList-from_slice}
 use Rattle.std.proofs.lemmas.Iterator.Search.{all_from_yields_List}

@@ -1,10 +1,9 @@
-use Rattle.std.proofs.Common.{rules, tests, ◌≡◌, ℕ, List, not, drop, length, sym, refl, ap, ◌∙◌}
+use Rattle.std.proofs.Common.{rules, tests, ◌≡◌, not, sym, refl, ap, ◌∙◌}
 use Rattle.std.specs.List.{position}
 use Rattle.std.proofs.lemmas.List.{take_rest}
-use Rattle.std.specs.Option.{unwrap_or}
 use Rattle.std.proofs.lemmas.Iterator.{YieldsList-from_slice}
 use Rattle.std.proofs.lemmas.Iterator.Search.{position_from_yields_List}
-use Rattle.commands.specs.Words.{is_blank, words}
+use Rattle.commands.specs.Words.{is_blank}
 use Rattle.commands.proofs.Splits.{no_word, next}
 use Rattle.commands.proofs.words.WordsIterator.next.Goals as goal
 
