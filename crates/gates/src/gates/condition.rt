@@ -35,6 +35,7 @@ impl Gates {
         ensures { Least (free (sides self.now) (at v.now) i) (at v.now i) self.now.count result }
     {
         let present = v.heights()[i] as usize;
+        // Over the positions and, for each, over the vans: the first rival leaves for the next position.
         'next: for (past, &gate) in self.vans[i].numbers()[present..].iter().enumerate() {
             for j in 0..self.count {
                 if self.rival(v, i, gate as usize, j) {
