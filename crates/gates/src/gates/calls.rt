@@ -65,6 +65,7 @@ impl Gates {
     }
 
     // What else holds of the condition: stability by rivals, free places, and a depot without vans.
+    #[tactic(auto, using(crate::specs::Lawfulness::laws))]
     pub fn laws(&self)
         ensures { GatesLaws self.now }
     {}
