@@ -25,8 +25,8 @@ impl Gates {
         requires { (i < self.now.count) × ((g < self.now.count) × (j < self.now.count)) }
         ensures { result ≡ is_rival (sides self.now) (at v.now) i g j }
     {
-        self.gates[g].rank(j) < self.gates[g].rank(i)
-            && self.vans[j].rank(g) <= v.heights()[j] as usize
+        let gate = &self.gates[g];
+        gate.rank(j) < gate.rank(i) && self.vans[j].rank(g) <= v.heights()[j] as usize
     }
 
     // The first position of van i, from its present one on, where no van is its rival, or the number of gates.
