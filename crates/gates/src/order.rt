@@ -54,18 +54,26 @@ impl Order {
         }
         let mut order = [0; MOST];
         let mut ranks = [count as u8; MOST];
-        for (p, &x) in numbers.iter().enumerate() {
-            if x as usize >= count || (ranks[x as usize] as usize) < count {
+        for (p, &number) in numbers.iter().enumerate() {
+            let x = usize::from(number);
+            if x >= count || usize::from(ranks[x]) < count {
                 return Err(OrderFault::Order);
             }
-            order[p] = x;
-            ranks[x as usize] = p as u8;
+            order[p] = number;
+            ranks[x] = p as u8;
         }
         Ok(Order {
             count,
             numbers: order,
             ranks,
         })
+    }
+
+    // How many numbers there are.
+    pub(crate) fn count(&self) -> usize
+        ensures { result ≡ self.now.count }
+    {
+        self.count
     }
 
     // The numbers, most liked first.

@@ -1,5 +1,4 @@
-ghost use Rattle.std.specs.Prelude.{◌≡◌, ◌≤◌};
-ghost use Rattle.gates.specs.Orders.{most};
+ghost use Rattle.std.specs.Prelude.{◌≡◌, ℕ, ◌<◌, slice_index};
 ghost use Rattle.gates.specs.Gates.{sides, Plain, Started, RowPut, GateAt, GatesLaws};
 
 use crate::fault::OrderFault;
@@ -12,26 +11,26 @@ impl Gates {
     pub fn new(count: usize) -> Option<Gates>
         ensures { Started count result }
     {
-        (count <= MOST).then(|| Gates::plain(count))
+        (count <= MOST).then(|| Gates::of(Order::plain(count)))
     }
 
     // No vans and no gates.
     pub fn none() -> Gates
         ensures { Plain 0 result }
     {
-        Gates::plain(0)
+        Gates::of(Order::plain(0))
     }
 
-    // `count` vans and gates, each with the order 0, 1, 2 and so on.
-    fn plain(count: usize) -> Gates
-        requires { count ≤ most }
-        ensures { Plain count result }
+    // As many vans and gates as there are numbers in an order, which is that of each of them.
+    fn of(order: Order) -> Gates
+        ensures count { (sides result).n ≡ order.count }
+        ensures vans { (i p : ℕ) → i < order.count → (sides result).van i p ≡ slice_index order.numbers p }
+        ensures gates { (g p : ℕ) → g < order.count → (sides result).gate g p ≡ slice_index order.numbers p }
     {
-        let orders = [Order::plain(count); MOST];
         Gates {
-            count,
-            vans: orders,
-            gates: orders,
+            count: order.count(),
+            vans: [order; MOST],
+            gates: [order; MOST],
         }
     }
 
@@ -66,6 +65,7 @@ impl Gates {
     }
 
     // What else holds of the condition: stability by rivals, free places, and a depot without vans.
+    #[tactic(auto, using(crate::specs::Lawfulness::laws))]
     pub fn laws(&self)
         ensures { GatesLaws self.now }
     {}

@@ -25,8 +25,8 @@ impl Gates {
         requires { (i < self.now.count) × ((g < self.now.count) × (j < self.now.count)) }
         ensures { result ≡ is_rival (sides self.now) (at v.now) i g j }
     {
-        self.gates[g].rank(j) < self.gates[g].rank(i)
-            && self.vans[j].rank(g) <= v.heights()[j] as usize
+        let gate = &self.gates[g];
+        gate.rank(j) < gate.rank(i) && self.vans[j].rank(g) <= v.heights()[j] as usize
     }
 
     // The first position of van i, from its present one on, where no van is its rival, or the number of gates.
@@ -35,6 +35,7 @@ impl Gates {
         ensures { Least (free (sides self.now) (at v.now) i) (at v.now i) self.now.count result }
     {
         let present = v.heights()[i] as usize;
+        // Over the positions and, for each, over the vans: the first rival leaves for the next position.
         'next: for (past, &gate) in self.vans[i].numbers()[present..].iter().enumerate() {
             for j in 0..self.count {
                 if self.rival(v, i, gate as usize, j) {

@@ -8,7 +8,7 @@ pub returns-then-rank : goal.returns-then-rank
 returns-then-rank c =
     let m = c.args.self.now in
     let here = rank_at m.count m.gates c.args.g c.index-self-g.result c.args.j c.rank.result m.even.1 (omega arith) c.rank.ensures in
-    let there = rank_at m.count m.gates c.args.g c.index-self-g-2.result c.args.i c.rank-2.result m.even.1 (omega arith) c.rank-2.ensures in
+    let there = rank_at m.count m.gates c.args.g c.index-self-g.result c.args.i c.rank-2.result m.even.1 (omega arith) c.rank-2.ensures in
     let came = rank_at m.count m.vans c.args.j c.index-self-j.result c.args.g c.rank-then-rank.result m.even.0 (omega arith) c.rank-then-rank.ensures in
     rw (← here, ← there, ← came) (grind (arith, nat_tests))
 
@@ -16,5 +16,5 @@ pub returns-else-rank : goal.returns-else-rank
 returns-else-rank c =
     let m = c.args.self.now in
     let here = rank_at m.count m.gates c.args.g c.index-self-g.result c.args.j c.rank.result m.even.1 (omega arith) c.rank.ensures in
-    let there = rank_at m.count m.gates c.args.g c.index-self-g-2.result c.args.i c.rank-2.result m.even.1 (omega arith) c.rank-2.ensures in
+    let there = rank_at m.count m.gates c.args.g c.index-self-g.result c.args.i c.rank-2.result m.even.1 (omega arith) c.rank-2.ensures in
     rw (← here, ← there) (grind (arith, nat_tests))
