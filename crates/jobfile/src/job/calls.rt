@@ -92,10 +92,7 @@ impl Job {
     // holds everywhere, so this is the condition of the kind that it names.
     pub fn condition(
         &self,
-    ) -> Pair<
-        Pair<Consistent<'_>, Pair<Watched<'_>, Channels<'_>>>,
-        Lent<&Gates, Gates>,
-    >
+    ) -> Pair<Pair<Consistent<'_>, Pair<Watched<'_>, Channels<'_>>>, Lent<&Gates, Gates>>
         ensures first { result.first.first.job.now ≡ self.now.trace }
         ensures second { result.first.second.first.job.now ≡ self.now.trace }
         ensures third { result.first.second.second.job.now ≡ self.now.trace }
