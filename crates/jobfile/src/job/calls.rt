@@ -6,10 +6,8 @@ use crate::job::read::clear;
 use cuts::conditions::{Channels, Consistent, Watched, condition};
 use cuts::job::TraceJob;
 use gates::gates::Gates;
-use lattice::lent::Lent;
 use lattice::pair::Pair;
 use std::alloc::{AllocError, Global};
-use std::marker::PhantomData;
 
 impl Job {
     // A blank job. All memory that a job can come to need is asked for here.
@@ -79,13 +77,10 @@ impl Job {
         Channels { job: &self.trace }
     }
 
-    pub fn gates(&self) -> Lent<&Gates, Gates>
-        ensures { result.lender.now ≡ self.now.gates }
+    pub fn gates(&self) -> &Gates
+        ensures { result.now ≡ self.now.gates }
     {
-        Lent {
-            lender: &self.gates,
-            of: PhantomData,
-        }
+        &self.gates
     }
 
     // The job's own condition: that of its trace paired with that of its gates. The part that the letter does not name
@@ -94,12 +89,12 @@ impl Job {
         &self,
     ) -> Pair<
         Pair<Consistent<'_>, Pair<Watched<'_>, Channels<'_>>>,
-        Lent<&Gates, Gates>,
+        &Gates,
     >
         ensures first { result.first.first.job.now ≡ self.now.trace }
         ensures second { result.first.second.first.job.now ≡ self.now.trace }
         ensures third { result.first.second.second.job.now ≡ self.now.trace }
-        ensures gates { result.second.lender.now ≡ self.now.gates }
+        ensures gates { result.second.now ≡ self.now.gates }
     {
         let first = condition(&self.trace);
         let second = self.gates();
