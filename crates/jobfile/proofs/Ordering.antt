@@ -11,7 +11,9 @@ use Rattle.gates.specs.declared.gates.Gates.{Gates}
 use Rattle.gates.specs.Orders.{OrderOf, number_at, Unfit, no_row, no_order}
 use Rattle.gates.specs.Gates.{sides, RowPut}
 use Rattle.wire.specs.declared.reader.Reader.{Reader}
-use Rattle.wire.specs.Parts.{row, after, next}
+use Rattle.refusal.specs.declared.Rule.TheVariants as rule
+use Rattle.refusal.specs.Table.{row}
+use Rattle.wire.specs.Parts.{after, next}
 use Rattle.wire.specs.declared.record.RecordFault.{RecordFault}
 use Rattle.wire.specs.Records.{RowShort, record_row}
 use Rattle.wire.specs.Records.RowShort.{missing as short}
@@ -31,7 +33,7 @@ module _ (i n : ℕ) (before left : Reader) (g : Gates) (list : List ℕ) (same 
     (read : (length list ≡ n) × (before.rest.now ≡ list ++ left.rest.now) × (left.total ≡ before.total)) where
   -- and no order
   row_unfit : (e : OrderFault) (place : ℕ) → i < (sides g).n → place ≡ before.total - length before.rest.now → Unfit (sides g).n i list e →
-      RowBroken (sides g).n before.total before.rest.now (row 10 place Record)
+      RowBroken (sides g).n before.total before.rest.now (row rule.Row place Record)
   row_unfit _ place inside at (no_row beyond) = absurd (omega arith)
   row_unfit _ place inside at (no_order _ none) = rw at (disorder list left.rest.now (read.0 ∙ same) read.1 none)
 
@@ -51,7 +53,7 @@ module _ (i n : ℕ) (before left : Reader) (g : Gates) (list : List ℕ) (same 
         }
 
     pub row_breaks : (e : OrderFault) (place : ℕ) → i < (sides g).n → place ≡ before.total - length before.rest.now → r ≡ Err e →
-        RowBroken (sides g).n before.total before.rest.now (row 10 place Record)
+        RowBroken (sides g).n before.total before.rest.now (row rule.Row place Record)
     row_breaks e place inside at is = row_unfit e place inside at (subst (λ z. RowPut (table_of s) (other_of s) i list g z h) is put).0
 
 -- the same, said of a side and of what came of it by other names
