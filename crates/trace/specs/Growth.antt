@@ -1,5 +1,5 @@
 -- A trace grows event by event. Assumes nothing.
-use Rattle.std.specs.Prelude.{◌≡◌, ℕ, ◌+◌, ◌<◌, ◌≤◌, Bool, false, ◌&&◌, List, [], ◌∷◌, ◌++◌, length, IfSome, Some, None, vec_items, Option, Result, MatchOption, MatchResult, OnErr, ◌==◌, ◌≢◌, nat_lt, slice_index, slice_index_or, slice_set}
+use Rattle.std.specs.Prelude.{◌≡◌, ℕ, ◌+◌, ◌<◌, ◌≤◌, Bool, false, ◌&&◌, List, [], ◌∷◌, ◌++◌, length, IfSome, Some, None, Option, Result, MatchOption, MatchResult, OnErr, ◌==◌, ◌≢◌, nat_lt, slice_index, slice_index_or, slice_set}
 use Rattle.trace.specs.declared.event.Event.{Event}
 use Rattle.trace.specs.declared.event.Action.{Action}
 use Rattle.trace.specs.declared.event.Action.TheVariants.{Local, Send, Receive}
@@ -9,11 +9,12 @@ use Rattle.trace.specs.declared.clock.Clock.{Clock}
 use Rattle.trace.specs.declared.trace.Trace.{Trace}
 use Rattle.trace.specs.Events.{most, longest, by, does, number, total, source, Sending, Receiving}
 use Rattle.trace.specs.Rules.{Valid}
+use Rattle.trace.specs.Tables.{recorded}
 use Rattle.trace.specs.Clocks.{zeros, merged, latest, mattern, clock, Knows}
 
 -- the events of a trace, in file order
 abbrev pub events : Trace → List Event
-events t = vec_items t.events
+events t = recorded t.steps.items
 
 -- a message rule that the action of process p breaks after these events
 pub data BreaksMessages (es : List Event) (p : ℕ) : Action → Type 0 where
