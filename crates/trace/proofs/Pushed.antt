@@ -1,5 +1,5 @@
 -- The tables after one event more. Assumes nothing.
-use Rattle.std.proofs.Common.{◌≡◌, ℕ, ◌+◌, ◌-◌, ◌<◌, false, cond, List, [], ◌∷◌, ◌++◌, length, get_or, set, Option, sym, refl, ap, ◌∙◌, subst, ⊎_elim, arith}
+use Rattle.std.proofs.Common.{◌≡◌, ℕ, ◌+◌, ◌-◌, ◌<◌, false, cond, true, false, Bool, List, [], ◌∷◌, ◌++◌, length, get_or, set, Option, sym, refl, ap, ◌∙◌, subst, ⊎_elim, arith}
 use Rattle.std.specs.Global.{Vec}
 use Rattle.std.proofs.lemmas.List.{length_push, map-set, get_or-map, get_or-set_same, get_or-set_other, get_or_append_left, get_or_push}
 use Rattle.std.proofs.lemmas.Bool.{cases_eq, cond-true, cond-false, false_from_ne_true}
@@ -7,13 +7,13 @@ use Rattle.trace.specs.declared.event.Event.{Event}
 use Rattle.trace.specs.declared.event.Action.{Action}
 use Rattle.trace.specs.declared.event.Action.TheVariants.{Local, Send, Receive}
 use Rattle.trace.specs.declared.trace.Ends.{Ends}
-use Rattle.trace.specs.Events.{most, by, number, total, sends, Sending, Receiving}
+use Rattle.trace.specs.Events.{most, by, does, number, total, sends, Sending, Receiving}
 use Rattle.trace.specs.Rules.{Valid}
-use Rattle.trace.specs.Tables.{listed, Indexed, SendsAt, ReceivesAt, Tabled, receives, sending, receiving}
+use Rattle.trace.specs.Tables.{listed, Indexed, Finds, Tabled, receives, sent_at, received_at}
 use Rattle.trace.specs.Growth.{Fits, Within, sent_by}
 use Rattle.trace.proofs.Counts.{number_is, number_total}
-use Rattle.trace.proofs.Appended.{more, old_by, last_by, last_does, number_old, number_last, total_here, total_other, where_is, old_send, old_receive}
-use Rattle.trace.proofs.Sources.{sends_is, sends_at, receives_is, receives_at}
+use Rattle.trace.proofs.Appended.{more, old_by, last_by, old_does, last_does, number_old, number_last, total_here, total_other, where_is}
+use Rattle.trace.proofs.Sources.{sends_is, receives_is}
 use Rattle.trace.proofs.Grown.{answered, not_sent, not_received}
 
 module _ (n : ℕ) (es : List Event) (ev : Event) where
@@ -62,54 +62,50 @@ module _ (n : ℕ) (es : List Event) (ev : Event) where
       (where_is es ev e h)
 
   -- an event that fits sends no message again, and receives none again
-  sends_none : Fits n es ev → (s : Sending es) → sends s.message ev.action ≡ false
-  sends_none fits s = false_from_ne_true _ (λ e. let x = sends_is s.message ev.action e in not_sent n es ev fits x.to s.message x.is s refl)
+  sent_anew : Fits n es ev → (e m : ℕ) → e < length es → sends m (does es e) ≡ true → sends m ev.action ≡ false
+  sent_anew fits e m h passes =
+      let x = sends_is m (does es e) passes in
+      let s : Sending es = record { at = e; within = h; to = x.to; message = m; is = x.is } in
+      false_from_ne_true _ (λ again. let y = sends_is m ev.action again in not_sent n es ev fits y.to m y.is s refl)
 
-  receives_none : Fits n es ev → (r : Receiving es) → receives r.message ev.action ≡ false
-  receives_none fits r = false_from_ne_true _ (λ e. not_received n es ev fits r.message (receives_is r.message ev.action e) r refl)
+  received_anew : Fits n es ev → (e m : ℕ) → e < length es → receives m (does es e) ≡ true → receives m ev.action ≡ false
+  received_anew fits e m h passes =
+      let r : Receiving es = record { at = e; within = h; message = m; is = receives_is m (does es e) passes } in
+      false_from_ne_true _ (λ again. not_received n es ev fits m (receives_is m ev.action again) r refl)
 
-  sends_more : Fits n es ev → (table table' : List ℕ) → SendsAt es table → ((m : ℕ) → get_or table' m 0 ≡ cond (sends m ev.action) (length es) (get_or table m 0)) →
-      SendsAt (more es ev) table'
-  sends_more fits table table' known noted s =
-      noted s.message
+  finds_more : (test : ℕ → Action → Bool) (table table' : List ℕ) → ((e m : ℕ) → e < length es → test m (does es e) ≡ true → test m ev.action ≡ false) → Finds test es table →
+      ((m : ℕ) → get_or table' m 0 ≡ cond (test m ev.action) (length es) (get_or table m 0)) → Finds test (more es ev) table'
+  finds_more test table table' anew known noted e m h passes =
+      noted m
       ∙ ⊎_elim
-      (λ lt. cond-false _ _ _ (sends_none fits (old_send es ev s lt)) ∙ known (old_send es ev s lt))
-      (λ last. cond-true _ _ _ (sends_at s.message s.to s.message ev.action (sym (last_does es ev s.at last) ∙ s.is) refl) ∙ sym last)
-      (where_is es ev s.at s.within)
-
-  receives_more : Fits n es ev → (table table' : List ℕ) → ReceivesAt es table → ((m : ℕ) → get_or table' m 0 ≡ cond (receives m ev.action) (length es) (get_or table m 0)) →
-      ReceivesAt (more es ev) table'
-  receives_more fits table table' known noted r =
-      noted r.message
-      ∙ ⊎_elim
-      (λ lt. cond-false _ _ _ (receives_none fits (old_receive es ev r lt)) ∙ known (old_receive es ev r lt))
-      (λ last. cond-true _ _ _ (receives_at r.message ev.action (sym (last_does es ev r.at last) ∙ r.is)) ∙ sym last)
-      (where_is es ev r.at r.within)
+      (λ lt. let was = sym (ap (test m) (old_does es ev e lt)) ∙ passes in cond-false _ _ _ (anew e m lt was) ∙ known e m lt was)
+      (λ last. cond-true _ _ _ (sym (ap (test m) (last_does es ev e last)) ∙ passes) ∙ sym last)
+      (where_is es ev e h)
 
   pub tabled_more : (places : List (List ℕ)) (messages messages' : List Ends) → length places ≡ most → ev.process < most → Valid n es → Fits n es ev → Tabled es places messages →
-      ((m : ℕ) → get_or (sending messages') m 0 ≡ cond (sends m ev.action) (length es) (get_or (sending messages) m 0)) →
-      ((m : ℕ) → get_or (receiving messages') m 0 ≡ cond (receives m ev.action) (length es) (get_or (receiving messages) m 0)) →
+      ((m : ℕ) → get_or (sent_at messages') m 0 ≡ cond (sends m ev.action) (length es) (get_or (sent_at messages) m 0)) →
+      ((m : ℕ) → get_or (received_at messages') m 0 ≡ cond (receives m ev.action) (length es) (get_or (received_at messages) m 0)) →
       Tabled (more es ev) (with_place places) messages'
   tabled_more places messages messages' long own v fits t sent received =
       record {
         counted = counted_more places long own t.counted;
         indexed = indexed_more v places long own t.counted t.indexed;
-        sends_at = sends_more fits (sending messages) (sending messages') t.sends_at sent;
-        receives_at = receives_more fits (receiving messages) (receiving messages') t.receives_at received;
+        sent = finds_more sends (sent_at messages) (sent_at messages') (sent_anew fits) t.sent sent;
+        received = finds_more receives (received_at messages) (received_at messages') (received_anew fits) t.received received;
       }
 
   -- and so they are read off what a push leaves
   pub tabled_as : (places : List (List ℕ)) (messages messages' : List Ends) → length places ≡ most → ev.process < most → Valid n es → Fits n es ev → Tabled es places messages →
       (es' : List Event) (places' : List (List ℕ)) (e : ℕ) → e ≡ length es → es' ≡ more es ev → places' ≡ set places ev.process (get_or places ev.process [] ++ e ∷ []) →
-      ((m : ℕ) → get_or (sending messages') m 0 ≡ cond (sends m ev.action) e (get_or (sending messages) m 0)) →
-      ((m : ℕ) → get_or (receiving messages') m 0 ≡ cond (receives m ev.action) e (get_or (receiving messages) m 0)) →
+      ((m : ℕ) → get_or (sent_at messages') m 0 ≡ cond (sends m ev.action) e (get_or (sent_at messages) m 0)) →
+      ((m : ℕ) → get_or (received_at messages') m 0 ≡ cond (receives m ev.action) e (get_or (received_at messages) m 0)) →
       Tabled es' places' messages'
   tabled_as places messages messages' long own v fits t es' places' e at items here sent received =
       subst (λ x. Tabled x places' messages') (sym items)
       (subst (λ x. Tabled (more es ev) x messages') (sym (here ∙ ap (λ (x : ℕ). set places ev.process (get_or places ev.process [] ++ x ∷ [])) at))
       (tabled_more places messages messages' long own v fits t
-      (λ m. sent m ∙ ap (λ (x : ℕ). cond (sends m ev.action) x (get_or (sending messages) m 0)) at)
-      (λ m. received m ∙ ap (λ (x : ℕ). cond (receives m ev.action) x (get_or (receiving messages) m 0)) at)))
+      (λ m. sent m ∙ ap (λ (x : ℕ). cond (sends m ev.action) x (get_or (sent_at messages) m 0)) at)
+      (λ m. received m ∙ ap (λ (x : ℕ). cond (receives m ev.action) x (get_or (received_at messages) m 0)) at)))
 
 -- the lists of places, with one place more in one of them
 pub listed_push : (places : List (Vec ℕ)) (p e : ℕ) (v w : Vec ℕ) → p < length places → w.items ≡ (get_or places p v).items ++ e ∷ [] →

@@ -29,9 +29,6 @@ receives_is m Local e = absurd (both_ways false refl e)
 receives_is m (Send to k) e = absurd (both_ways false refl e)
 receives_is m (Receive k) e = ap (λ (x : ℕ). Receive x) (eqb-true k m e)
 
-pub receives_at : (m : ℕ) (a : Action) → a ≡ Receive m → receives m a ≡ true
-receives_at m a is = ap (receives m) is ∙ eq-eqb m m refl
-
 pub sends_to_is : (p m : ℕ) (a : Action) → sends_to p m a ≡ true → a ≡ Send p m
 sends_to_is p m Local e = absurd (both_ways false refl e)
 sends_to_is p m (Send to k) e =

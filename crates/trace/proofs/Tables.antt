@@ -41,8 +41,8 @@ tabled_none steps places messages none long empty =
     record {
       counted = λ i h. ap length (listed_at places i [] (omega arith) (λ v. empty i v h)) ∙ sym (ap (λ x. total (recorded x) i) none);
       indexed = λ e h. absurd (omega arith);
-      sends_at = λ s. absurd (omega (arith, s.within));
-      receives_at = λ r. absurd (omega (arith, r.within));
+      sent = λ e m h. absurd (omega arith);
+      received = λ e m h. absurd (omega arith);
     }
 
 -- a process with events is one of the processes
@@ -114,7 +114,5 @@ module _ (f : Ends → ℕ) (messages : List Ends) (m : ℕ) (x : Ends) where
       (λ ne. get_or-set_other (map f messages) m k (f x) 0 (λ e. ne (sym e)) ∙ sym (cond-false _ _ _ (ne_eqb m k ne)))
       (cases_eq m k)
 
-  pub unnoted : m < length messages → (y : Ends) → y ≡ get_or messages m y → f x ≡ f y → (k : ℕ) → get_or (map f (set messages m x)) k 0 ≡ get_or (map f messages) k 0
-  unnoted h y is same k =
-      ap (λ xs. get_or xs k 0)
-      (map-set f messages m x ∙ ap (set (map f messages) m) (same ∙ ap f is ∙ sym (get_or-map f messages m y 0 h)) ∙ set-get_or (map f messages) m 0)
+  pub unnoted : f x ≡ get_or (map f messages) m 0 → (k : ℕ) → get_or (map f (set messages m x)) k 0 ≡ get_or (map f messages) k 0
+  unnoted same k = ap (λ xs. get_or xs k 0) (map-set f messages m x ∙ ap (set (map f messages) m) same ∙ set-get_or (map f messages) m 0)

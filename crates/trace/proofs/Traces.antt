@@ -1,5 +1,5 @@
 -- What the fields of a trace say. Assumes nothing.
-use Rattle.std.proofs.Common.{◌≡◌, ℕ, ◌<◌, ◌≤◌, true, false, List, [], map, length, get_or, Option, MatchOption, Some, None, Err, sym, refl, ap, ◌∙◌, subst, ⊎_elim, arith}
+use Rattle.std.proofs.Common.{◌≡◌, ℕ, ◌<◌, ◌≤◌, true, false, Bool, List, [], map, length, get_or, Option, MatchOption, Some, None, Err, sym, refl, ap, ◌∙◌, subst, ⊎_elim, arith}
 use Rattle.std.specs.Option.{unwrap_or}
 use Rattle.std.proofs.lemmas.List.{length-map, get_or-map, get_or_past}
 use Rattle.std.proofs.lemmas.Bool.{cases_lt, both_ways, eq-eqb}
@@ -8,11 +8,12 @@ use Rattle.trace.specs.declared.trace.Step.{Step}
 use Rattle.trace.specs.declared.trace.Ends.{Ends}
 use Rattle.trace.specs.declared.clock.Clock.{Clock}
 use Rattle.trace.specs.declared.event.Event.{Event}
+use Rattle.trace.specs.declared.event.Action.{Action}
 use Rattle.trace.specs.declared.event.EventFault.{EventFault}
 use Rattle.trace.specs.Events.{does, total, sends, Sending, Receiving}
 use Rattle.trace.specs.Rules.{Valid}
 use Rattle.trace.specs.Clocks.{zeros, latest, mattern, clock, Knows}
-use Rattle.trace.specs.Tables.{listed, receives}
+use Rattle.trace.specs.Tables.{listed, receives, Finds}
 use Rattle.trace.specs.Growth.{events, Refused, Pushed, ClockOf, ClockAt, NthAt, SenderAt, ReceiverAt}
 use Rattle.trace.proofs.Sources.{sends_is, sends_at, source_is, receives_is, valid_from}
 use Rattle.trace.proofs.Tables.{total_none, total_few, latest_at, latest_none, length_recorded, clock_read}
@@ -62,25 +63,19 @@ latest_found t i h (Some e) None z all last found is = absurd (omega (arith, las
 latest_found t i h (Some e) (Some k) z all last found is =
     found.rule ∙ sym (latest_at (events t) (mattern (events t) (length (events t))) i e last.0 last.1 (last.2 ∙ all))
 
--- the only event that can send a message, or receive it, is at the place that the table has
-pub only_sender : (t : Trace) (m : ℕ) (x : Ends) → m < 65536 → x ≡ get_or t.messages.items m x → (s : Sending (events t)) → s.message ≡ m → s.at ≡ x.sent
-only_sender t m x h is s same =
-    sym (t.tables.sends_at s) ∙ ap (λ (k : ℕ). get_or (map (λ y. y.sent) t.messages.items) k 0) same
-    ∙ get_or-map (λ y. y.sent) t.messages.items m x 0 (omega (arith, t.sized.1, t.messages.ok.0)) ∙ sym (ap (λ y. y.sent) is)
+-- where a table of messages finds events, and the event at the place that it has is none, there is none
+missed : (t : Trace) (test : ℕ → Action → Bool) (f : Ends → ℕ) (m : ℕ) (x : Ends) → Finds test (events t) (map f t.messages.items) → m < 65536 → x ≡ get_or t.messages.items m x →
+    (f x < length (events t) → test m (does (events t) (f x)) ≡ false) → (e : ℕ) → e < length (events t) → test m (does (events t) e) ≡ true → ⊥
+missed t test f m x finds h is none e lt passes =
+    let at : e ≡ f x = sym (finds e m lt passes) ∙ get_or-map f t.messages.items m x 0 (omega (arith, t.sized.1, t.messages.ok.0)) ∙ sym (ap f is) in
+    both_ways _ (none (omega arith)) (ap (λ (k : ℕ). test m (does (events t) k)) (sym at) ∙ passes)
 
-pub only_receiver : (t : Trace) (m : ℕ) (x : Ends) → m < 65536 → x ≡ get_or t.messages.items m x → (r : Receiving (events t)) → r.message ≡ m → r.at ≡ x.received
-only_receiver t m x h is r same =
-    sym (t.tables.receives_at r) ∙ ap (λ (k : ℕ). get_or (map (λ y. y.received) t.messages.items) k 0) same
-    ∙ get_or-map (λ y. y.received) t.messages.items m x 0 (omega (arith, t.sized.1, t.messages.ok.0)) ∙ sym (ap (λ y. y.received) is)
-
--- so the event there decides
 pub sender_found : (t : Trace) (m : ℕ) (x : Ends) (o : Option ℕ) → m < 65536 → x ≡ get_or t.messages.items m x →
     MatchOption o (x.sent < length (events t) → sends m (does (events t) x.sent) ≡ false)
     (λ e. (e ≡ x.sent) × (x.sent < length (events t)) × (sends m (does (events t) x.sent) ≡ true)) →
     SenderAt t m o
 sender_found t m x None h is found = λ s same.
-    let at = only_sender t m x h is s same in
-    both_ways _ (found (omega (arith, s.within))) (sends_at m s.to s.message _ (ap (does (events t)) (sym at) ∙ s.is) same)
+    missed t sends (λ y. y.sent) m x t.tables.sent h is found s.at s.within (sends_at m s.to s.message _ s.is same)
 sender_found t m x (Some e) h is found =
     let a = sends_is m (does (events t) x.sent) found.2 in
     let s : Sending (events t) = record { at = x.sent; within = found.1; to = a.to; message = m; is = a.is } in
@@ -91,8 +86,7 @@ pub receiver_found : (t : Trace) (m : ℕ) (x : Ends) (o : Option ℕ) → m < 6
     (λ e. (e ≡ x.received) × (x.received < length (events t)) × (receives m (does (events t) x.received) ≡ true)) →
     ReceiverAt t m o
 receiver_found t m x None h is found = λ r same.
-    let at = only_receiver t m x h is r same in
-    both_ways _ (found (omega (arith, r.within))) (ap (receives m) (ap (does (events t)) (sym at) ∙ r.is) ∙ eq-eqb r.message m same)
+    missed t receives (λ y. y.received) m x t.tables.received h is found r.at r.within (ap (receives m) r.is ∙ eq-eqb r.message m same)
 receiver_found t m x (Some e) h is found =
     let r : Receiving (events t) = record { at = x.received; within = found.1; message = m; is = receives_is m _ found.2 } in
     (r, refl, sym found.0)

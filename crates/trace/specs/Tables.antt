@@ -6,7 +6,7 @@ use Rattle.trace.specs.declared.event.Action.{Action}
 use Rattle.trace.specs.declared.event.Action.TheVariants.{Local, Send, Receive}
 use Rattle.trace.specs.declared.trace.Step.{Step}
 use Rattle.trace.specs.declared.trace.Ends.{Ends}
-use Rattle.trace.specs.Events.{most, longest, by, does, number, total, source, Sending, Receiving}
+use Rattle.trace.specs.Events.{most, longest, by, does, number, total, sends, source, Sending, Receiving}
 
 -- the events of steps, and the entries of each clock
 abbrev pub recorded : List Step → List Event
@@ -23,38 +23,35 @@ listed = map (λ v. v.items)
 abbrev pub Indexed : List Event → List (List ℕ) → Type 0
 Indexed es places = (e : ℕ) → e < length es → slice_index (slice_index_or places (by es e) []) (number es e - 1) ≡ e
 
--- the tables have, by message number, the place of each event that sends and of each that receives; of other numbers they say nothing
-abbrev pub SendsAt : List Event → List ℕ → Type 0
-SendsAt es table = (s : Sending es) → slice_index table s.message ≡ s.at
+-- the table has, by message number, the place of each event whose action passes the test; of other numbers it says nothing
+abbrev pub Finds : (ℕ → Action → Bool) → List Event → List ℕ → Type 0
+Finds test es table = (e m : ℕ) → e < length es → test m (does es e) ≡ true → slice_index table m ≡ e
 
-abbrev pub ReceivesAt : List Event → List ℕ → Type 0
-ReceivesAt es table = (r : Receiving es) → slice_index table r.message ≡ r.at
+-- the table of messages as two: where each is sent, and where it is received
+abbrev pub sent_at : List Ends → List ℕ
+sent_at = map (λ m. m.sent)
 
--- the places of the events that send each message, and of those that receive it, in the table of messages
-abbrev pub sending : List Ends → List ℕ
-sending = map (λ m. m.sent)
-
-abbrev pub receiving : List Ends → List ℕ
-receiving = map (λ m. m.received)
-
--- all that the tables have: no place of a process but those of its events, and the others as above
-pub record Tabled (es : List Event) (places : List (List ℕ)) (messages : List Ends) : Type 0 where
-  pub counted : (i : ℕ) → i < most → length (slice_index_or places i []) ≡ total es i
-  pub indexed : Indexed es places
-  pub sends_at : SendsAt es (sending messages)
-  pub receives_at : ReceivesAt es (receiving messages)
-
--- whether an action sends message m to process p
-abbrev pub sends_to : ℕ → ℕ → Action → Bool
-sends_to p m Local = false
-sends_to p m (Send to k) = to == p && k == m
-sends_to p m (Receive k) = false
+abbrev pub received_at : List Ends → List ℕ
+received_at = map (λ m. m.received)
 
 -- whether an action receives message m
 abbrev pub receives : ℕ → Action → Bool
 receives m Local = false
 receives m (Send to k) = false
 receives m (Receive k) = k == m
+
+-- what the tables have: the places of each process are those of its events, and messages are found where they are sent and received
+pub record Tabled (es : List Event) (places : List (List ℕ)) (messages : List Ends) : Type 0 where
+  pub counted : (i : ℕ) → i < most → length (slice_index_or places i []) ≡ total es i
+  pub indexed : Indexed es places
+  pub sent : Finds sends es (sent_at messages)
+  pub received : Finds receives es (received_at messages)
+
+-- whether an action sends message m to process p
+abbrev pub sends_to : ℕ → ℕ → Action → Bool
+sends_to p m Local = false
+sends_to p m (Send to k) = to == p && k == m
+sends_to p m (Receive k) = false
 
 -- each message that is received was sent earlier in the file, to the process that receives it
 abbrev pub Answers : List Event → (ℕ → ℕ) → Type 0

@@ -1,8 +1,7 @@
-ghost use Rattle.std.specs.Prelude.{◌≡◌, ℕ, ◌<◌, [], length, vec_len, slice_index, if◌then◌else◌, IfOk};
-ghost use Rattle.trace.specs.Growth.{events, Pushed, Begun, Judged, Within, names_at, ticked};
-ghost use Rattle.trace.specs.Clocks.{mattern, latest};
-ghost use Rattle.trace.specs.Events.{longest, sends};
-ghost use Rattle.trace.specs.Tables.{receives, sending, receiving};
+ghost use Rattle.std.specs.Prelude.{◌≡◌, ℕ, ◌<◌, [], length, slice_index, if◌then◌else◌, IfOk};
+ghost use Rattle.trace.specs.Growth.{events, Pushed, Begun, Judged, Within, names_at, ticked, last_clock};
+ghost use Rattle.trace.specs.Events.{sends};
+ghost use Rattle.trace.specs.Tables.{receives, sent_at, received_at};
 
 use crate::clock::{Clock, PROCESSES};
 use crate::event::{Action, Event, EventFault};
@@ -99,7 +98,6 @@ impl Trace {
     fn tick(&self, process: usize, sent: Option<usize>) -> Clock
         requires process_lt_n { process < self.now.n }
         requires within { Within (events self.now) sent }
-        requires self_len_bound { length (events self.now) < longest }
         ensures { result.entries ≡ ticked (events self.now) process sent }
     {
         let mut clock = self.latest(process);
@@ -112,7 +110,7 @@ impl Trace {
 
     // The clock of the last event of a process, zeros if it has none.
     fn latest(&self, process: usize) -> Clock
-        ensures { result.entries ≡ latest (events self.now) (mattern (events self.now) (length (events self.now))) process (length (events self.now)) }
+        ensures { result.entries ≡ last_clock (events self.now) process }
     {
         self.nth(process, self.total(process))
             .and_then(|last| self.clock(last))
@@ -121,11 +119,11 @@ impl Trace {
 }
 
 // Writes down the place of an event that sends or receives a message.
-fn note(messages: &mut Vec<Ends>, action: Action, at: u16)
-    requires { vec_len messages.old ≡ 65536 }
-    ensures long { vec_len messages.new ≡ vec_len messages.old }
-    ensures sent { (m : ℕ) → slice_index (sending messages.new.items) m ≡ (if sends m action then at else slice_index (sending messages.old.items) m) }
-    ensures received { (m : ℕ) → slice_index (receiving messages.new.items) m ≡ (if receives m action then at else slice_index (receiving messages.old.items) m) }
+fn note(messages: &mut [Ends], action: Action, at: u16)
+    requires { length messages.old ≡ 65536 }
+    ensures long { length messages.new ≡ length messages.old }
+    ensures sent { (m : ℕ) → slice_index (sent_at messages.new) m ≡ (if sends m action then at else slice_index (sent_at messages.old) m) }
+    ensures received { (m : ℕ) → slice_index (received_at messages.new) m ≡ (if receives m action then at else slice_index (received_at messages.old) m) }
 {
     match action {
         Action::Local => {}

@@ -8,7 +8,7 @@ invariant_of-result-clause-room c =
     (c.in_ok-with_capacity.ensures.capacity, λ k d h. let a = made.at k d (omega (arith, made.long)) in search rules)
 
 pub invariant_of-result-clause-rules : goal.invariant_of-result-clause-rules
-invariant_of-result-clause-rules c = keeps_none 0 _ c.in_ok-with_capacity.ensures.items
+invariant_of-result-clause-rules c = keeps_none _ _ c.in_ok-with_capacity.ensures.items
 
 pub invariant_of-result-clause-tables : goal.invariant_of-result-clause-tables
 invariant_of-result-clause-tables c =

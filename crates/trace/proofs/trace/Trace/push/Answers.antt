@@ -1,16 +1,16 @@
-use Rattle.std.proofs.Common.{◌≡◌, ◌<◌, ◌≤◌, [], ◌∷◌, ◌++◌, length, get_or, vec_capacity, sym, refl, ap, ◌∙◌, subst, arith}
+use Rattle.std.proofs.Common.{◌≡◌, ◌<◌, ◌≤◌, [], ◌∷◌, ◌++◌, cond, length, get_or, vec_capacity, sym, refl, ap, ◌∙◌, subst, arith}
 use Rattle.std.specs.Global.{Vec}
-use Rattle.std.proofs.lemmas.List.{length-set, length-map, map_push, get_or-map}
+use Rattle.std.proofs.lemmas.List.{with_items_is, length-set, length-map, map_push, get_or-map}
 use Rattle.std.proofs.lemmas.List.Elements.{All-set}
 use Rattle.std.proofs.lemmas.Result.{err_from_is_err_and}
 use Rattle.trace.specs.declared.clock.Clock.{Clock}
 use Rattle.trace.specs.declared.event.Event.{Event}
 use Rattle.trace.specs.declared.trace.Step.{Step}
 use Rattle.trace.specs.declared.trace.Trace.{Trace}
-use Rattle.trace.specs.Events.{most, longest}
+use Rattle.trace.specs.Events.{most, longest, sends}
 use Rattle.trace.specs.Clocks.{mattern}
 use Rattle.trace.specs.Growth.{events, Refused, Pushed, ticked}
-use Rattle.trace.specs.Tables.{recorded, rows, listed, Keeps}
+use Rattle.trace.specs.Tables.{recorded, rows, listed, receives, sent_at, received_at, Keeps}
 use Rattle.trace.proofs.Appended.{more}
 use Rattle.trace.proofs.Counts.{count_le}
 use Rattle.trace.proofs.Grown.{grown, grown_as}
@@ -58,7 +58,7 @@ invariant_of-self-clause-room c =
 pub invariant_of-self-clause-sized : goal.invariant_of-self-clause-sized
 invariant_of-self-clause-sized c =
     let t = c.args.self.now in
-    (length-set t.places c.args.event.process _ ∙ t.sized.0, c.note.ensures.long ∙ t.sized.1)
+    (length-set t.places c.args.event.process _ ∙ t.sized.0, t.sized.1)
 
 pub invariant_of-self-clause-rules : goal.invariant_of-self-clause-rules
 invariant_of-self-clause-rules c =
@@ -74,8 +74,11 @@ invariant_of-self-clause-tables c =
     let own : ev.process < most = omega (arith, fits.process, t.few) in
     let at : c.len-at.result ≡ length (events t) = omega (arith, c.len-at.ensures, t.steps.ok.0, length_recorded t.steps.items) in
     let here = listed_push t.places ev.process c.len-at.result c.index-self-process.result c.push_reserved.new.self (omega (arith, t.sized.0)) c.push_reserved.ensures.items in
-    tabled_as t.n (events t) ev (listed t.places) t.messages.items c.note.new.messages.items (omega (arith, length-map t.places (λ v. v.items), t.sized.0)) own (valid t) fits t.tables
-    _ _ c.len-at.result at (left t ev c.tick-clock.result c.push_reserved-2.new.self c.push_reserved-2.ensures.items) here c.note.ensures.sent c.note.ensures.received
+    let noted = with_items_is t.messages c.note.new.messages (c.note.ensures.long ∙ c.deref_mut.ensures.len) in
+    tabled_as t.n (events t) ev (listed t.places) t.messages.items _ (omega (arith, length-map t.places (λ v. v.items), t.sized.0)) own (valid t) fits t.tables
+    _ _ c.len-at.result at (left t ev c.tick-clock.result c.push_reserved-2.new.self c.push_reserved-2.ensures.items) here
+    (λ m. ap (λ x. get_or (sent_at x) m 0) noted ∙ c.note.ensures.sent m ∙ ap (λ x. cond (sends m ev.action) c.len-at.result (get_or (sent_at x) m 0)) c.deref_mut.ensures.value)
+    (λ m. ap (λ x. get_or (received_at x) m 0) noted ∙ c.note.ensures.received m ∙ ap (λ x. cond (receives m ev.action) c.len-at.result (get_or (received_at x) m 0)) c.deref_mut.ensures.value)
 
 pub invariant_of-self-clause-clocked : goal.invariant_of-self-clause-clocked
 invariant_of-self-clause-clocked c =
