@@ -1,7 +1,7 @@
 -- The events of a trace with the tables that go with them. Assumes nothing.
-use Rattle.std.proofs.Common.{◌≡◌, ℕ, zero, suc, ◌-◌, ◌<◌, ◌≤◌, cond, eqb, List, [], ◌∷◌, map, length, get_or, set, sym, refl, ap, ◌∙◌, subst, ⊎_elim, arith}
+use Rattle.std.proofs.Common.{◌≡◌, ℕ, zero, suc, ◌-◌, ◌<◌, ◌≤◌, cond, eqb, List, [], ◌∷◌, ◌++◌, map, length, get_or, set, sym, refl, ap, ◌∙◌, subst, ⊎_elim, arith}
 use Rattle.std.specs.Global.{Vec}
-use Rattle.std.proofs.lemmas.List.{length-map, map-set, get_or-map, set-get_or, get_or-set_same, get_or-set_other}
+use Rattle.std.proofs.lemmas.List.{length-map, map_push, map-set, get_or-map, set-get_or, get_or-set_same, get_or-set_other}
 use Rattle.std.proofs.lemmas.Bool.{cases_lt, cases_eq, eq-eqb, ne_eqb, cond-true, cond-false}
 use Rattle.trace.specs.declared.clock.Clock.{Clock}
 use Rattle.trace.specs.declared.event.Event.{Event}
@@ -96,6 +96,9 @@ latest_none es cs i none =
 -- what is read from the steps
 pub length_recorded : (steps : List Step) → length (recorded steps) ≡ length steps
 length_recorded steps = length-map steps (λ s. s.event)
+
+pub recorded_push : (steps steps' : List Step) (s : Step) → steps' ≡ steps ++ s ∷ [] → recorded steps' ≡ recorded steps ++ s.event ∷ []
+recorded_push steps steps' s is = ap recorded is ∙ map_push (λ x. x.event) steps s
 
 pub clock_read : (steps : List Step) (e : ℕ) (k : Clock) → rows steps ≡ mattern (recorded steps) (length (recorded steps)) → e < length steps → ((d : Step) → k ≡ (get_or steps e d).clock) →
     k.entries ≡ clock (recorded steps) e

@@ -1,5 +1,6 @@
 -- What the fields of a trace say. Assumes nothing.
-use Rattle.std.proofs.Common.{◌≡◌, ℕ, ◌<◌, ◌≤◌, true, false, Bool, List, [], map, length, get_or, Option, MatchOption, Some, None, Err, sym, refl, ap, ◌∙◌, subst, ⊎_elim, arith}
+use Rattle.std.proofs.Common.{◌≡◌, ℕ, ◌<◌, ◌≤◌, true, false, Bool, List, [], map, length, get_or, vec_len, vec_capacity, Option, MatchOption, Some, None, Err, sym, refl, ap, ◌∙◌, subst, ⊎_elim, arith}
+use Rattle.std.specs.Global.{Vec}
 use Rattle.std.specs.Option.{unwrap_or}
 use Rattle.std.proofs.lemmas.List.{length-map, get_or-map, get_or_past}
 use Rattle.std.proofs.lemmas.Bool.{cases_lt, both_ways, eq-eqb}
@@ -36,6 +37,12 @@ counted t i =
 
 pub counted_few : (t : Trace) (i : ℕ) → length (get_or (listed t.places) i []) ≤ 1024
 counted_few t i = omega (arith, counted t i, total_few t.n (events t) (valid t) i)
+
+-- and it has room while the process has less than the most events
+pub room_left : (t : Trace) (p : ℕ) (v : Vec ℕ) → p < t.n → total (events t) p < 1024 → vec_len (get_or t.places p v) < vec_capacity (get_or t.places p v)
+room_left t p v own few =
+    let h : p < length t.places = omega (arith, t.few, t.sized.0) in
+    omega (arith, t.room.1 p v h, (get_or t.places p v).ok.0, ap length (get_or-map (λ x. x.items) t.places p v [] h), counted t p)
 
 -- a clock of an event, as a read has it
 pub clock_of : (t : Trace) (e : ℕ) (k : Clock) → e < length t.steps.items → ((d : Step) → k ≡ (get_or t.steps.items e d).clock) → ClockOf t e k

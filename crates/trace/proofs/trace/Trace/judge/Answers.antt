@@ -5,7 +5,7 @@ use Rattle.trace.specs.declared.event.EventFault.TheVariants.{Message}
 use Rattle.trace.specs.Growth.{events, Judged, SenderAt}
 use Rattle.trace.specs.Growth.Refused.{full, no_process}
 use Rattle.trace.specs.Growth.BreaksMessages.{unsent, misdirected, received_again}
-use Rattle.trace.proofs.Judging.{ill_sent, sent_twice, ill_received, fits_local, fits_send, fits_receive, some_sender, no_sender, some_receiver, no_receipt, names_send}
+use Rattle.trace.proofs.Judging.{ill_sent, sent_twice, ill_received, fits_send, fits_receive, some_sender, no_sender, some_receiver, no_receipt, names_send}
 use Rattle.trace.proofs.trace.Trace.judge.Goals as goal
 use Rattle.trace.proofs.trace.Trace.judge.Goals.{then-to-self-via-then-to-self, then-to-self-via-else-to-self+then-to-event, then-not-names-via-then-not-names, then-not-names-via-else-not-names+then-is_some-2}
 
@@ -55,11 +55,6 @@ returns-then-not-names c =
           let r = some_receiver t m w.receiver.result w.receiver.ensures (sym w.is_some-else-not-names.ensures ∙ w.if-is_some-2.true) in
           received_again r.0 r.1
     ])
-
-pub returns-in-Local : goal.returns-in-Local
-returns-in-Local c =
-    let t = c.args.self.now in
-    fits_local t.n (events t) c.args.event.now (omega arith) c.if-event-self.false c.in-Local.is
 
 pub returns-else-is_some : goal.returns-else-is_some
 returns-else-is_some c =

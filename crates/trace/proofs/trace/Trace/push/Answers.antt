@@ -1,24 +1,18 @@
-use Rattle.std.proofs.Common.{◌≡◌, ◌<◌, ◌≤◌, [], ◌∷◌, ◌++◌, cond, length, get_or, vec_capacity, sym, refl, ap, ◌∙◌, subst, arith}
-use Rattle.std.specs.Global.{Vec}
-use Rattle.std.proofs.lemmas.List.{with_items_is, length-set, length-map, map_push, get_or-map}
+use Rattle.std.proofs.Common.{◌≡◌, ℕ, ◌<◌, ◌≤◌, [], ◌∷◌, ◌++◌, cond, length, get_or, vec_capacity, sym, refl, ap, ◌∙◌, subst, arith}
+use Rattle.std.proofs.lemmas.List.{with_items_is, length-set, length-map, map_push}
 use Rattle.std.proofs.lemmas.List.Elements.{All-set}
 use Rattle.std.proofs.lemmas.Result.{err_from_is_err_and}
-use Rattle.trace.specs.declared.clock.Clock.{Clock}
-use Rattle.trace.specs.declared.event.Event.{Event}
-use Rattle.trace.specs.declared.trace.Step.{Step}
-use Rattle.trace.specs.declared.trace.Trace.{Trace}
 use Rattle.trace.specs.Events.{most, longest, sends}
 use Rattle.trace.specs.Clocks.{mattern}
 use Rattle.trace.specs.Growth.{events, Refused, Pushed, ticked}
-use Rattle.trace.specs.Tables.{recorded, rows, listed, receives, sent_at, received_at, Keeps}
-use Rattle.trace.proofs.Appended.{more}
+use Rattle.trace.specs.Tables.{rows, listed, receives, sent_at, received_at, Keeps}
 use Rattle.trace.proofs.Counts.{count_le}
 use Rattle.trace.proofs.Grown.{grown, grown_as}
 use Rattle.trace.proofs.Pushed.{listed_push, tabled_as, sent_within}
 use Rattle.trace.proofs.Sources.{keeps}
 use Rattle.trace.proofs.Steps.{clocks_more}
-use Rattle.trace.proofs.Tables.{length_recorded}
-use Rattle.trace.proofs.Traces.{valid, counted, push_refused}
+use Rattle.trace.proofs.Tables.{length_recorded, recorded_push}
+use Rattle.trace.proofs.Traces.{valid, room_left, push_refused}
 use Rattle.trace.proofs.trace.Trace.push.Goals as goal
 
 pub returns-in_err-sent : goal.returns-in_err-sent
@@ -37,22 +31,15 @@ pub push_reserved-requires : goal.push_reserved-requires
 push_reserved-requires c =
     let t = c.args.self.now in
     let p = c.args.event.process in
-    let v = c.index-self-process.result in
-    let h : p < length t.places = omega (arith, c.in_ok-sent.ensures.0.process, t.few, t.sized.0) in
-    omega
-    (arith, t.room.1 p v h, (get_or t.places p v).ok.0, ap length (get_or-map (λ x. x.items) t.places p v [] h), counted t p, count_le (events t) p (length (events t)), c.in_ok-sent.ensures.0.room)
-
--- the events of a trace with one step more
-left : (t : Trace) (ev : Event) (k : Clock) (steps : Vec Step) → steps.items ≡ t.steps.items ++ record { event = ev; clock = k } ∷ [] → recorded steps.items ≡ more (events t) ev
-left t ev k steps is = ap recorded is ∙ map_push (λ s. s.event) t.steps.items _
+    room_left t p _ c.in_ok-sent.ensures.0.process (omega (arith, count_le (events t) p (length (events t)), c.in_ok-sent.ensures.0.room))
 
 pub invariant_of-self-clause-room : goal.invariant_of-self-clause-room
 invariant_of-self-clause-room c =
     let t = c.args.self.now in
-    let h : c.args.event.process < length t.places = omega (arith, c.in_ok-sent.ensures.0.process, t.few, t.sized.0) in
-    let here = t.room.1 c.args.event.process c.index-self-process.result h in (
+    let h : c.args.event.process < length t.places = omega (arith, c.in_ok-sent.ensures.0.process, t.few, t.sized.0) in (
       omega (arith, t.room.0, c.push_reserved-2.ensures.capacity),
-      All-set (λ v. longest ≤ vec_capacity v) t.places c.args.event.process _ (omega (arith, here, c.push_reserved.ensures.capacity)) t.room.1,
+      All-set (λ v. longest ≤ vec_capacity v) t.places c.args.event.process _
+          (subst (λ (k : ℕ). longest ≤ k) (sym c.push_reserved.ensures.capacity) (t.room.1 c.args.event.process _ h)) t.room.1,
     )
 
 pub invariant_of-self-clause-sized : goal.invariant_of-self-clause-sized
@@ -63,7 +50,7 @@ invariant_of-self-clause-sized c =
 pub invariant_of-self-clause-rules : goal.invariant_of-self-clause-rules
 invariant_of-self-clause-rules c =
     let t = c.args.self.now in
-    subst (Keeps t.n) (sym (left t c.args.event c.tick-clock.result c.push_reserved-2.new.self c.push_reserved-2.ensures.items))
+    subst (Keeps t.n) (sym (recorded_push _ _ _ c.push_reserved-2.ensures.items))
     (keeps t.n _ (grown t.n (events t) c.args.event (valid t) c.in_ok-sent.ensures.0))
 
 pub invariant_of-self-clause-tables : goal.invariant_of-self-clause-tables
@@ -73,10 +60,10 @@ invariant_of-self-clause-tables c =
     let fits = c.in_ok-sent.ensures.0 in
     let own : ev.process < most = omega (arith, fits.process, t.few) in
     let at : c.len-at.result ≡ length (events t) = omega (arith, c.len-at.ensures, t.steps.ok.0, length_recorded t.steps.items) in
-    let here = listed_push t.places ev.process c.len-at.result c.index-self-process.result c.push_reserved.new.self (omega (arith, t.sized.0)) c.push_reserved.ensures.items in
+    let here = listed_push t.places ev.process c.len-at.result _ c.push_reserved.new.self (omega (arith, t.sized.0)) c.push_reserved.ensures.items in
     let noted = with_items_is t.messages c.note.new.messages (c.note.ensures.long ∙ c.deref_mut.ensures.len) in
     tabled_as t.n (events t) ev (listed t.places) t.messages.items _ (omega (arith, length-map t.places (λ v. v.items), t.sized.0)) own (valid t) fits t.tables
-    _ _ c.len-at.result at (left t ev c.tick-clock.result c.push_reserved-2.new.self c.push_reserved-2.ensures.items) here
+    _ _ c.len-at.result at (recorded_push _ _ _ c.push_reserved-2.ensures.items) here
     (λ m. ap (λ x. get_or (sent_at x) m 0) noted ∙ c.note.ensures.sent m ∙ ap (λ x. cond (sends m ev.action) c.len-at.result (get_or (sent_at x) m 0)) c.deref_mut.ensures.value)
     (λ m. ap (λ x. get_or (received_at x) m 0) noted ∙ c.note.ensures.received m ∙ ap (λ x. cond (receives m ev.action) c.len-at.result (get_or (received_at x) m 0)) c.deref_mut.ensures.value)
 
@@ -89,10 +76,10 @@ invariant_of-self-clause-clocked c =
     ∙ ap (λ x. x ++ c.tick-clock.result.entries ∷ []) t.clocked
     ∙ ap (λ x. mattern es (length es) ++ x ∷ []) (c.tick-clock.ensures ∙ ap (ticked es ev.process) c.in_ok-sent.ensures.1)
     ∙ sym (clocks_more es ev t.n (valid t) c.in_ok-sent.ensures.0)
-    ∙ ap (λ x. mattern x (length x)) (sym (left t ev c.tick-clock.result c.push_reserved-2.new.self c.push_reserved-2.ensures.items))
+    ∙ ap (λ x. mattern x (length x)) (sym (recorded_push _ _ _ c.push_reserved-2.ensures.items))
 
 pub returns : goal.returns
 returns c =
     let t = c.args.self.now in
-    let items = left t c.args.event c.tick-clock.result c.push_reserved-2.new.self c.push_reserved-2.ensures.items in
+    let items = recorded_push _ _ _ c.push_reserved-2.ensures.items in
     record { outcome = (refl, items, grown_as t.n (events t) c.args.event (valid t) c.in_ok-sent.ensures.0 _ items); exactly = λ _. tt }
