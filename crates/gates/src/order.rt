@@ -88,6 +88,6 @@ impl Order {
         requires { x < self.now.count }
         ensures { result ≡ position self.now.count (λ p. slice_index self.now.numbers p) x }
     {
-        self.ranks[x] as usize
+        usize::from(self.ranks[x])
     }
 }

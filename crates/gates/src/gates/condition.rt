@@ -37,8 +37,9 @@ impl Gates {
         let present = v.heights()[i] as usize;
         // Over the positions and, for each, over the vans: the first rival leaves for the next position.
         'next: for (past, &gate) in self.vans[i].numbers()[present..].iter().enumerate() {
+            let gate = usize::from(gate);
             for j in 0..self.count {
-                if self.rival(v, i, gate as usize, j) {
+                if self.rival(v, i, gate, j) {
                     continue 'next;
                 }
             }
