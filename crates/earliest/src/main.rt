@@ -5,7 +5,7 @@ mod report;
 
 use crate::depot::depot;
 use crate::report::print_report;
-use anyhow::{Context, anyhow};
+use anyhow::{Context, ensure};
 use gates::gates::Gates;
 use lattice::board::Board;
 
@@ -20,9 +20,7 @@ fn move_down(
     place: usize,
     position: u32,
 ) -> anyhow::Result<()> {
-    if board.floor(place, position).is_err() {
-        return Err(anyhow!("the floor is refused"));
-    }
+    ensure!(board.floor(place, position).is_ok(), "the floor is refused");
     println!(rt; "floor {place} {position}")?;
     let _ = board.run(gates, DECIDING);
     print_report(rt, gates, &board.read())?;
