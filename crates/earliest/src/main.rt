@@ -5,7 +5,7 @@ mod report;
 
 use crate::depot::depot;
 use crate::report::print_report;
-use anyhow::anyhow;
+use anyhow::{Context, anyhow};
 use gates::gates::Gates;
 use lattice::board::Board;
 
@@ -31,9 +31,7 @@ fn move_down(
 
 // Places the vans of the depot, then moves one van down its order until no placing is left.
 fn run(rt: &impl Print) -> anyhow::Result<()> {
-    let Ok(gates) = depot() else {
-        return Err(anyhow!("the depot's orders are refused"));
-    };
+    let gates = depot().context("the depot's orders are refused")?;
     let mut board = Board::new();
     let _ = board.run(&gates, DECIDING);
     print_report(rt, &gates, &board.read())?;

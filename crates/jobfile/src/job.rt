@@ -16,5 +16,5 @@ pub struct Job {
     trace: TraceJob,
     gates: Gates,
     ghost no_trace: { (letter_by kind ≢ 84) → trace.trace.n ≡ 0 },
-    ghost no_gates: { (letter_by kind ≢ 77) → gates.vans.count ≡ 0 },
+    ghost no_gates: { (letter_by kind ≢ 77) → gates.count ≡ 0 },
 }

@@ -78,20 +78,20 @@ module _ {holds : Vector → Type 0} {reply : Vector → Reply} (laws : Lawful h
             let lt = laws.place u p h r in
             omega (arith, sp, big, climb_sum laws climb, total_strict u p h lt (laws.rises u p h r) (omega (arith, le, top.bounded p lt)))
 
+  -- a run that ends on found or none
+  settled : {l : History} {c : Board} {budget n : ℕ} → Keeps laws (run budget (answer_of c.verdict) n (reading c) ∷ l) c → (IsOpen c.verdict → ⊥)
+      → RunPromise holds reply budget (answer_of c.verdict) n (run budget (answer_of c.verdict) n (reading c) ∷ l) (reading c)
+  settled {c = c} k shut = record {
+    stands = tells c.verdict;
+    exact = λ f. absurd (shut (pending_open c.verdict f));
+    next = λ f. absurd (shut (pending_open c.verdict f));
+    decided = λ big. decides c.verdict shut (λ f. (least k f).solves) (none_left k);
+  }
+
   run_promise : {l : History} {b c : Board} {budget n : ℕ} → Keeps laws (run budget (answer_of c.verdict) n (reading c) ∷ l) c → RunStep reply budget b n c
       → RunPromise holds reply budget (answer_of c.verdict) n (run budget (answer_of c.verdict) n (reading c) ∷ l) (reading c)
-  run_promise {c = c} k (found e) = record {
-    stands = tells c.verdict;
-    exact = λ f. absurd (open_not_found (pending_open c.verdict f) e);
-    next = λ f. absurd (open_not_found (pending_open c.verdict f) e);
-    decided = λ big. decides c.verdict (λ o. open_not_found o e) (λ f. (least k f).solves) (none_left k);
-  }
-  run_promise {c = c} k (none e) = record {
-    stands = tells c.verdict;
-    exact = λ f. absurd (open_not_none (pending_open c.verdict f) e);
-    next = λ f. absurd (open_not_none (pending_open c.verdict f) e);
-    decided = λ big. decides c.verdict (λ o. open_not_none o e) (λ f. (least k f).solves) (none_left k);
-  }
+  run_promise k (found e) = settled k (λ o. open_not_found o e)
+  run_promise k (none e) = settled k (λ o. open_not_none o e)
   run_promise {c = c} k (searched e s) = record {
     stands = tells c.verdict;
     exact = λ f. (spent_end s.ends (pending_open c.verdict f)).0;

@@ -13,6 +13,7 @@ use Rattle.lattice.specs.declared.verdict.Verdict.TheVariants.{Found}
 use Rattle.lattice.specs.Order.{at}
 use Rattle.gates.specs.declared.gates.Gates.{Gates}
 use Rattle.gates.specs.Gates.{sides}
+use Rattle.gates.specs.Lawfulness.{laws}
 use Rattle.jobfile.specs.declared.job.Job.{Job as TheJob}
 use Rattle.jobfile.specs.Jobs.{places_of}
 use Rattle.text.specs.Texts.{longest, added}
@@ -59,7 +60,7 @@ lines_short shown (suc k) few short =
 pub places_few : (j : TheJob) → places_of j ≤ 16
 places_few j =
     let t = j.trace.trace.few in
-    let g = j.gates.vans.few in
+    let g = j.gates.few in
     grind (arith, nat_tests)
 
 height_short : (v : Vector) (i : ℕ) → i < 32 → length (decimal (at v i)) ≤ 7
@@ -70,9 +71,9 @@ height_short v i low =
 -- the number of a gate, or -
 gate_short : (m : Gates) (i p : ℕ) → i < (sides m).n → length (gate_shown (sides m).n ((sides m).van i) p) ≤ 7
 gate_short m i p low =
-    let few = m.vans.few in
+    let few = m.few in
     let number : p < (sides m).n → length (decimal ((sides m).van i p)) ≤ 7 = λ less.
-    let below = m.vans.within i p (low, less) in
+    let below = ((laws m).vans i low).within p less in
     length-decimal-le 7 ((sides m).van i p) (omega arith) (omega arith) (omega arith) in
     grind (arith, nat_tests)
 
