@@ -1,8 +1,5 @@
 -- An event that is read: its record, and what the trace says of it; and events in a row. Assumes nothing.
-use Rattle.std.proofs.Common.{◌≡◌, ℕ, ◌+◌, ◌-◌, ◌<◌, ◌≤◌, List, [], ◌++◌, length, take, replicate, Ok, Err, sym, refl, ap, ◌∙◌, subst, subst₂, append_assoc, arith, take-take, take_at, Result, MatchResult}
-use Rattle.std.specs.List.{flat_map, AllByRecursion}
-use Rattle.std.proofs.lemmas.List.{length_push, flat_map_more}
-use Rattle.std.proofs.ByRecursion.{All-push}
+use Rattle.std.proofs.Common.{◌≡◌, ℕ, ◌-◌, ◌<◌, ◌≤◌, List, ◌++◌, length, take, replicate, Ok, Err, sym, ap, ◌∙◌, subst, subst₂, arith, take-take, take_at, Result, MatchResult}
 use Rattle.refusal.specs.declared.Layer.TheVariants.{Job}
 use Rattle.refusal.specs.declared.Refusal.{Refusal}
 use Rattle.payload.specs.declared.wish.Wish.{Wish}
@@ -12,9 +9,7 @@ use Rattle.trace.specs.declared.event.Event.{Event}
 use Rattle.trace.specs.declared.event.Action.{Action}
 use Rattle.trace.specs.declared.event.Action.TheVariants.{Local, Send, Receive}
 use Rattle.trace.specs.Events.{longest}
-use Rattle.trace.specs.Rules.{Valid}
 use Rattle.trace.specs.Growth.{BreaksMessages, NoReceiver, absent, itself, full, no_process, no_receiver, no_message}
-use Rattle.trace.proofs.Traces.{valid}
 use Rattle.cuts.specs.declared.fault.JobFault.{JobFault}
 use Rattle.cuts.specs.declared.job.TraceJob.{TraceJob}
 use Rattle.cuts.specs.Jobs.{processes, happened, padded, BadEvent, no_payload, refused, EventOf, Recorded}
@@ -114,43 +109,10 @@ module _ (before : Reader) (j : TraceJob) (n width : ℕ) (same_n : n ≡ proces
         let ok = rules r.event r.is in
         rw at (message r.event left.rest.now (stood r.event r.is) ok (only_messages j x r.event e room long ok r.outcome.0))
 
--- no events yet
-pub events_none : (count : ℕ) (before : Reader) (j : TraceJob) → happened j ≡ [] → count ≡ 0 → EventsRead count before before j j
-events_none count before j none zero = record {
-  many = ap length none ∙ sym zero;
-  ok = (valid j.trace, subst (AllByRecursion (EventOk (processes j) (width_of j.wish))) (sym none) tt);
-  took = record { is = ap (λ es. flat_map (event_bytes (width_of j.wish)) es ++ before.rest.now) (sym none); total = refl };
-  same = record { processes = refl; wish = refl; watch = refl; channels = refl };
-}
-
 -- some events were read
 module _ (i : ℕ) (before left : Reader) (j k : TraceJob) (so : EventsRead i before left j k) where
   same_width : width_of k.wish ≡ width_of j.wish
   same_width = ap width_of so.same.wish
-
-  -- and one more
-  pub events_more : (after : Reader) (l : TraceJob) → EventRead left after k l → EventsRead (i + 1) before after j l
-  events_more after l one =
-      let bytes = event_bytes (width_of j.wish) in
-      let here : left.rest.now ≡ bytes one.event ++ after.rest.now = one.took.is ∙ ap (λ w. event_bytes w one.event ++ after.rest.now) same_width in
-      let moved : flat_map bytes (happened k) ++ (bytes one.event ++ after.rest.now) ≡ flat_map bytes (happened l) ++ after.rest.now =
-      sym (append_assoc (flat_map bytes (happened k)) (bytes one.event) after.rest.now)
-      ∙ ap (λ z. z ++ after.rest.now) (flat_map_more bytes [] (happened k) one.event ∙ ap (flat_map bytes) (sym one.list)) in
-      record {
-        many = ap length one.list ∙ length_push (happened k) one.event ∙ ap (λ (m : ℕ). m + 1) so.many;
-        ok = (
-          subst (λ m. Valid m (happened l)) (one.same.processes ∙ so.same.processes) one.valid,
-          subst (AllByRecursion (EventOk (processes j) (width_of j.wish))) (sym one.list)
-              (All-push _ (happened k) one.event so.ok.1 (subst₂ (λ m w. EventOk m w one.event) so.same.processes same_width one.ok)),
-        );
-        took = record { is = so.took.is ∙ ap (λ z. flat_map bytes (happened k) ++ z) here ∙ moved; total = one.took.total ∙ so.took.total };
-        same = record {
-          processes = one.same.processes ∙ so.same.processes;
-          wish = one.same.wish ∙ so.same.wish;
-          watch = one.same.watch ∙ so.same.watch;
-          channels = one.same.channels ∙ so.same.channels;
-        };
-      }
 
   -- the next is broken
   pub events_break : (count : ℕ) (r : Refusal) → i < count → EventBroken (processes k) (width_of k.wish) left.total (happened k) left.rest.now r →

@@ -1,8 +1,6 @@
 -- Channels, one after another: how one is broken, and what is read of them so far. Assumes nothing.
-use Rattle.std.proofs.Common.{◌≡◌, ℕ, ◌+◌, ◌-◌, ◌<◌, ◌≤◌, List, [], ◌∷◌, length, Result, Ok, Err, MatchResult, sym, refl, ap, ◌∙◌, subst, subst₂, arith}
-use Rattle.std.specs.List.{flat_map, AllByRecursion}
-use Rattle.std.proofs.lemmas.List.{length_push}
-use Rattle.std.proofs.ByRecursion.{All-push}
+use Rattle.std.proofs.Common.{◌≡◌, ℕ, ◌-◌, ◌<◌, ◌≤◌, List, ◌∷◌, length, Result, Ok, Err, MatchResult, ap, ◌∙◌, subst₂, arith}
+use Rattle.std.specs.List.{AllByRecursion}
 use Rattle.refusal.specs.declared.Layer.TheVariants.{Job}
 use Rattle.refusal.specs.declared.Refusal.{Refusal}
 use Rattle.trace.specs.declared.trace.Trace.{Trace}
@@ -16,8 +14,8 @@ use Rattle.refusal.specs.Table.{row}
 use Rattle.wire.specs.Parts.{here, after, Each, next}
 use Rattle.jobfile.specs.Forms.{channel_bytes, ChannelOk}
 use Rattle.jobfile.specs.Table.{Byte, byte_of, IsReceiver, ChannelBroken}
-use Rattle.jobfile.specs.Fields.{Took, ChannelRead, ChannelsRead}
-use Rattle.jobfile.proofs.Taking.{missing_as, range_at, took_more}
+use Rattle.jobfile.specs.Fields.{ChannelRead, ChannelsRead}
+use Rattle.jobfile.proofs.Taking.{missing_as, range_at}
 
 -- a receiver that is refused beside a sender that is not is none
 bad_receiver : (n : ℕ) (cs : List Channel) (sender receiver : ℕ) {e : JobFault} → length cs < 8 → sender < n → BadChannel n cs sender receiver e → IsReceiver n sender receiver → ⊥
@@ -57,32 +55,9 @@ channel_added before mid left j k (Ok u) sender receiver place fits is total sen
 channel_added before mid left j k (Err e) sender receiver place fits is total sends small stands whole at room bad =
     bad_receiver_at (processes j) before.total before.rest.now sender mid.rest.now fits is sends place receiver left.rest.now (listed j) mid.total total at small stands room bad.0
 
--- no channel yet, and one more
-pub channels_none : (r : Reader) (j : TraceJob) → listed j ≡ [] → ChannelsRead 0 r r j j
-channels_none r j none = record {
-  many = ap length none;
-  ok = subst (AllByRecursion (ChannelOk (processes j))) (sym none) tt;
-  took = subst (λ l. Took (flat_map channel_bytes l) r r) (sym none) (record { is = refl; total = refl });
-  same = record { trace = refl; wish = refl; watch = refl };
-}
-
 module _ {count : ℕ} {before mid : Reader} {j k : TraceJob} (read : ChannelsRead count before mid j k) where
   counted : processes k ≡ processes j
   counted = ap (λ (t : Trace). t.n) read.same.trace
-
-  pub channels_more : (left : Reader) (m : TraceJob) → ChannelRead mid left k m → ChannelsRead (count + 1) before left j m
-  channels_more left m one =
-      let ok = All-push (ChannelOk (processes j)) (listed k) one.channel read.ok (subst (λ n. ChannelOk n one.channel) counted one.ok) in
-      record {
-        many = ap length one.list ∙ omega (arith, length_push (listed k) one.channel, read.many);
-        ok = subst (AllByRecursion (ChannelOk (processes j))) (sym one.list) ok;
-        took = subst (λ l. Took (flat_map channel_bytes l) before left) (sym one.list) (took_more channel_bytes (listed k) one.channel read.took one.took);
-        same = record {
-          trace = one.same.trace ∙ read.same.trace;
-          wish = one.same.wish ∙ read.same.wish;
-          watch = one.same.watch ∙ read.same.watch;
-        };
-      }
 
   -- the next channel is broken
   pub channels_fail : (all : ℕ) {r : Refusal} → count < all → ChannelBroken (processes k) mid.total mid.rest.now r →

@@ -1,16 +1,14 @@
 -- Fields that are taken off a body: their bytes, how one is broken, and what several take. Assumes nothing.
-use Rattle.std.proofs.Common.{◌≡◌, ℕ, ◌+◌, ◌-◌, ◌*◌, ◌/◌, ◌^◌, ◌<◌, ⊎_elim, List, [], ◌∷◌, ◌++◌, length, get_or, Bool, true, false, Some, Result, Ok, Err, MatchResult, refl, sym, ap, ◌∙◌, subst, ap₂, append_assoc, arith}
-use Rattle.std.specs.List.{flat_map}
+use Rattle.std.proofs.Common.{◌≡◌, ℕ, ◌+◌, ◌-◌, ◌*◌, ◌/◌, ◌^◌, ◌<◌, ⊎_elim, List, [], ◌∷◌, ◌++◌, length, get_or, Bool, true, false, Result, Ok, Err, MatchResult, refl, sym, ap, ◌∙◌, subst, ap₂, arith}
 use Rattle.std.specs.Bool.{then_some}
 use Rattle.std.specs.Option.{ok_or}
 use Rattle.std.specs.Result.{IsErrAnd}
 use Rattle.std.proofs.lemmas.Result.{err_from_is_err_and}
-use Rattle.std.proofs.lemmas.List.{nil_from_length, flat_map_more}
+use Rattle.std.proofs.lemmas.List.{nil_from_length}
 use Rattle.std.proofs.lemmas.Nat.{le-div, pow_pos}
-use Rattle.std.proofs.lemmas.Bool.{eq-eqb, cases_lt}
+use Rattle.std.proofs.lemmas.Bool.{cases_lt}
 use Rattle.refusal.specs.declared.Layer.TheVariants.{Job}
 use Rattle.refusal.specs.declared.Refusal.{Refusal}
-use Rattle.payload.specs.Kinds.{of_width}
 use Rattle.wire.specs.Bytes.{word2}
 use Rattle.wire.specs.declared.reader.Reader.{Reader}
 use Rattle.refusal.specs.declared.Rule.TheVariants as rule
@@ -18,7 +16,7 @@ use Rattle.refusal.specs.Table.{row}
 use Rattle.wire.specs.Parts.{Reads, FieldBroken, missing, range}
 use Rattle.wire.proofs.Words.{word2_number}
 use Rattle.jobfile.specs.declared.fault.JobFault.TheVariants as JobFault
-use Rattle.jobfile.specs.Fields.{job_row, Took}
+use Rattle.jobfile.specs.Fields.{job_row}
 
 -- lists of one byte to four
 one_byte : (s : List ℕ) → length s ≡ 1 → s ≡ get_or s 0 0 ∷ []
@@ -55,9 +53,6 @@ module _ (s part t : List ℕ) (is : s ≡ part ++ t) where
 
 -- how a field is broken, with the place of the fault
 module _ {A : Type 0} (width : ℕ) (Fits : A → Type 0) (bytes : A → List ℕ) (Range : A → Type 0) (total : ℕ) (s : List ℕ) where
-  pub missing_at : (p : ℕ) → length s < width → p ≡ total → FieldBroken width Fits bytes Range total s (row rule.Missing p Job)
-  missing_at p short at = rw at (missing short)
-
   pub missing_as : {r : Refusal} → length s < width → r ≡ row rule.Missing total Job → FieldBroken width Fits bytes Range total s r
   missing_as short at = rw at (missing short)
 
@@ -82,21 +77,3 @@ mapped_err (Ok x) m Post P Q R known is then = subst (λ z. MatchResult z P R) (
 mapped_err (Err e) m Post P Q R known is then =
     let (d, at, post) = err_from_is_err_and m is in
     subst (λ z. MatchResult z P R) (sym at) (then e d known post)
-
--- what bytes of the width state
-pub stated_by : {W : Type 0} (wide : ℕ) (stated : List ℕ → W) (part : List ℕ) (w : W) → length part ≡ wide → Some w ≡ of_width wide stated part → w ≡ stated part
-stated_by wide stated part w long is =
-    let known = rw (eq-eqb (length part) wide long) at is in
-    cc
-
--- what was taken in two steps
-pub took_then : (x y : List ℕ) {before mid left : Reader} → Took x before mid → Took y mid left → Took (x ++ y) before left
-took_then x y {left = left} a b = record {
-  is = a.is ∙ ap (λ z. x ++ z) b.is ∙ sym (append_assoc x y left.rest.now);
-  total = b.total ∙ a.total;
-}
-
--- one part more of some
-pub took_more : {X : Type 0} (bytes : X → List ℕ) (xs : List X) (x : X) {before mid left : Reader} →
-    Took (flat_map bytes xs) before mid → Took (bytes x) mid left → Took (flat_map bytes (xs ++ x ∷ [])) before left
-took_more bytes xs x {before} {mid} {left} a b = subst (λ z. Took z before left) (flat_map_more bytes [] xs x) (took_then (flat_map bytes xs) (bytes x) a b)

@@ -27,7 +27,7 @@ pub(crate) enum Kind {
     Scan,
 }
 
-// The bytes of a field.
+// The bytes of a field. Each field tests its range itself, since no closure over an array of N bytes can be a parameter yet.
 fn bytes<const N: usize>(reader: &mut Reader<'_>) -> Result<[u8; N], JobFault>
     ensures { BytesRead N reader.old result reader.new }
 {

@@ -8,22 +8,11 @@ word2_number a b v ha hb e =
     let q : v % 256 ≡ b = omega arith in
     cc
 
-pub number_word2 : (v : ℕ) → v < 65536 → (v / 256 % 256) * 256 + v % 256 ≡ v
-number_word2 v h = omega arith
-
 pub word2_one : (v w : ℕ) → v < 65536 → w < 65536 → word2 v ≡ word2 w → v ≡ w
 word2_one v w hv hw e =
     let p : v / 256 % 256 ≡ w / 256 % 256 = cc in
     let q : v % 256 ≡ w % 256 = cc in
     omega arith
-
-pub word4_number : (a b c d v : ℕ) → a < 256 → b < 256 → c < 256 → d < 256 → a * 16777216 + b * 65536 + c * 256 + d ≡ v → word4 v ≡ a ∷ b ∷ c ∷ d ∷ []
-word4_number a b c d v ha hb hc hd e =
-    let p : v / 16777216 % 256 ≡ a = omega arith in
-    let q : v / 65536 % 256 ≡ b = omega arith in
-    let r : v / 256 % 256 ≡ c = omega arith in
-    let t : v % 256 ≡ d = omega arith in
-    cc
 
 -- of every length that a file may have
 pub number_word4 : (v : ℕ) → v ≤ 16384 → (v / 16777216 % 256) * 16777216 + (v / 65536 % 256) * 65536 + (v / 256 % 256) * 256 + v % 256 ≡ v

@@ -3,7 +3,7 @@ use Rattle.std.proofs.lemmas.Result.{err_from_is_err_and}
 use Rattle.payload.specs.declared.kinds.ScanWish.{ScanWish}
 use Rattle.jobfile.specs.Table.{kind_width}
 use Rattle.jobfile.specs.Fields.{letter_of_kind}
-use Rattle.jobfile.proofs.Taking.{first_byte, first_words, missing_as}
+use Rattle.jobfile.proofs.Taking.{first_words, missing_as}
 use Rattle.jobfile.proofs.fields.wish.Goals as goal
 
 pub returns-in_err-wish_of-in-Code : goal.returns-in_err-wish_of-in-Code
@@ -17,14 +17,6 @@ returns-in_err-wish_of-in-Scan c =
     let p = err_from_is_err_and c.from_residual-in_err-wish_of-in-Scan.result c.from_residual-in_err-wish_of-in-Scan.ensures.1 in
     let short = c.in_err-wish_of-in-Scan.ensures in
     rw (p.1, p.2) (missing_as _ _ _ _ _ _ (omega (arith, short.0, ap (λ k. kind_width (letter_of_kind k)) c.in-Scan.is)) short.1)
-
-pub returns-in_ok-wish_of-in-Code : goal.returns-in_ok-wish_of-in-Code
-returns-in_ok-wish_of-in-Code c =
-    let read = c.in_ok-wish_of-in-Code.ensures in (
-      ((sym (ap letter_of_kind c.in-Code.is), omega (arith, read.says, read.bytes 0)), tt),
-      first_byte _ _ _ read.took.is _ read.long read.says,
-      read.took.total,
-    )
 
 pub returns-in_ok-wish_of-in-Scan : goal.returns-in_ok-wish_of-in-Scan
 returns-in_ok-wish_of-in-Scan c =
