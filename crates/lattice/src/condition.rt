@@ -1,16 +1,30 @@
-ghost use Rattle.std.specs.Prelude.{◌≡◌};
+ghost use Rattle.std.specs.Prelude.{◌≡◌, Some};
 ghost use Rattle.lattice.specs.declared.vector.Vector.{Vector};
 ghost use Rattle.lattice.specs.declared.condition.Reply.{Reply};
 ghost use Rattle.lattice.specs.Laws.{Lawful};
+ghost use Rattle.lattice.specs.Words.{reply_words};
 
 use crate::vector::Vector;
+use std::fmt;
 
 // A lift names a place and its new height, which may be above what a vector can have.
-#[derive(Clone, Copy, PartialEq, Eq)]
+#[derive(Clone, Copy, Debug, PartialEq, Eq)]
 pub enum Reply {
     Holds,
     Lift((usize, u32)),
     Never,
+}
+
+impl fmt::Display for Reply {
+    ghost output = { λ reply. Some (reply_words reply) };
+
+    fn fmt<W: fmt::Write>(&self, f: &mut fmt::Formatter<W>) -> fmt::Result {
+        match self {
+            Reply::Holds => f.write_str("holds"),
+            Reply::Lift((place, height)) => write!(f, "lift {place} {height}"),
+            Reply::Never => f.write_str("never"),
+        }
+    }
 }
 
 // A lattice-linear predicate: the vectors on which it holds, and its reply to each vector.
