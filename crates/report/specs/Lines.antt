@@ -1,33 +1,22 @@
 -- The text of a report, and where it is put. Assumes nothing.
 use Rattle.std.specs.Prelude.{◌≡◌, ℕ, zero, suc, ◌<◌, cond, List, [], ◌∷◌, ◌++◌, length, drop, codes, decimal, Result, MatchResult, ◌==◌, nat_lt}
-use Rattle.refusal.specs.declared.Layer.{Layer}
-use Rattle.refusal.specs.declared.Layer.TheVariants.{Frame, Record, Job, Report, Board}
+use Rattle.refusal.specs.declared.Layer.TheVariants.{Report}
 use Rattle.refusal.specs.declared.Refusal.{Refusal}
+use Rattle.refusal.specs.Table.{refusal_words}
 use Rattle.lattice.specs.declared.vector.Vector.{Vector}
 use Rattle.lattice.specs.declared.board.Reading.{Reading}
 use Rattle.lattice.specs.declared.verdict.Verdict.{Verdict}
 use Rattle.lattice.specs.declared.verdict.Verdict.TheVariants.{Open, Found, None}
 use Rattle.lattice.specs.Order.{at}
+use Rattle.lattice.specs.Words.{verdict_word}
 use Rattle.gates.specs.Gates.{sides}
 use Rattle.jobfile.specs.declared.job.Job.{Job as TheJob}
 use Rattle.jobfile.specs.Jobs.{places_of}
 use Rattle.wire.specs.Parts.{row}
 
-abbrev pub layer_word : Layer → List ℕ
-layer_word Frame = codes "frame"
-layer_word Record = codes "record"
-layer_word Job = codes "job"
-layer_word Report = codes "report"
-layer_word Board = codes "board"
-
 -- as in: refused 4 at 1 in frame
 abbrev pub text_of_refusal : Refusal → List ℕ
-text_of_refusal r = codes "refused " ++ (decimal r.number ++ (codes " at " ++ (decimal r.position ++ (codes " in " ++ (layer_word r.layer ++ (10 ∷ []))))))
-
-abbrev pub verdict_word : Verdict → List ℕ
-verdict_word Open = codes "open"
-verdict_word Found = codes "found"
-verdict_word None = codes "none"
+text_of_refusal r = refusal_words r ++ (10 ∷ [])
 
 -- job letter, space, verdict
 abbrev pub first_line : ℕ → Verdict → List ℕ
