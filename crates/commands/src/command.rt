@@ -1,3 +1,9 @@
+ghost use Rattle.std.specs.Prelude.{Some};
+ghost use Rattle.commands.specs.Faults.{fault_text};
+
+use std::error::Error;
+use std::fmt;
+
 // A condition that a probe asks.
 #[derive(Clone, Copy)]
 pub enum Asked {
@@ -23,7 +29,7 @@ pub enum Command<'a> {
 }
 
 // What is wrong with a line.
-#[derive(Clone, Copy, PartialEq, Eq)]
+#[derive(Clone, Copy, Debug, PartialEq, Eq)]
 pub enum LineFault {
     // no command has this name
     Unknown,
@@ -34,3 +40,18 @@ pub enum LineFault {
     // no condition has this name
     Condition,
 }
+
+impl fmt::Display for LineFault {
+    ghost output = { λ fault. Some (fault_text fault) };
+
+    fn fmt<W: fmt::Write>(&self, f: &mut fmt::Formatter<W>) -> fmt::Result {
+        f.write_str(match self {
+            LineFault::Unknown => "no such command",
+            LineFault::Words => "a word is missing, or there is one too many",
+            LineFault::Number => "a word is no number, or the number is too great",
+            LineFault::Condition => "no such condition",
+        })
+    }
+}
+
+impl Error for LineFault {}
