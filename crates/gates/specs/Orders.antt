@@ -1,5 +1,5 @@
 -- Orders of the numbers below n, most liked first. Assumes nothing.
-use Rattle.std.specs.Prelude.{◌≡◌, ℕ, ◌<◌, ◌≤◌, List, [], length, ◌≢◌, nat_eq, slice_index, slice_index_or}
+use Rattle.std.specs.Prelude.{codes, ◌≡◌, ℕ, ◌<◌, ◌≤◌, List, [], length, ◌≢◌, nat_eq, slice_index, slice_index_or}
 use Rattle.lattice.specs.First.{first}
 use Rattle.gates.specs.declared.fault.OrderFault.{OrderFault}
 use Rattle.gates.specs.declared.fault.OrderFault.TheVariants.{Row, Order}
@@ -31,6 +31,11 @@ pub record OrderOf (n : ℕ) (list : List ℕ) : Type 0 where
 pub data Unfit (n i : ℕ) (list : List ℕ) : OrderFault → Type 0 where
   no_row : n ≤ i → Unfit n i list Row
   no_order : i < n → (OrderOf n list → ⊥) → Unfit n i list Order
+
+-- the text of that
+abbrev pub fault_text : OrderFault → List ℕ
+fault_text Row = codes "there is no such row"
+fault_text Order = codes "not every number below the count once"
 
 -- the list is an order for row i; it stands there now, and every other row is as it was
 pub record Put (n i : ℕ) (list : List ℕ) (before after : ℕ → ℕ → ℕ) : Type 0 where
