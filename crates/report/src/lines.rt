@@ -15,8 +15,8 @@ use refusal::Refusal;
 // No line of a refusal and no report has more bytes.
 pub const LONGEST: usize = 512;
 
-// A text in memory of its own. It is put together by pushes, which are proved to fit: no clause says that a `fmt` succeeds
-// where its writer does, and a report may not fail.
+// A text in memory of its own.
+// Pushed and not written by `write!`: no clause says that a `fmt` succeeds where its writer does, and a report may not fail.
 pub type Text = ArrayString<LONGEST>;
 
 // The line of a refusal.
@@ -71,6 +71,7 @@ struct Places<'a> {
 }
 
 impl Places<'_> {
+    // A line has at most 25 bytes, and a job at most 16 places.
     #[tactic(auto, using(crate::proofs::Fitting::places_few))]
     fn push_lines(&self, text: &mut Text)
         requires { array_string_len text.old + 400 ≤ LONGEST }
