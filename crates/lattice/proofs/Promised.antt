@@ -1,5 +1,5 @@
 -- After every list of calls, what is promised holds. Assumes nothing but the laws of the condition.
-use Rattle.std.proofs.Common.{◌≡◌, ℕ, ◌≤◌, ◌∷◌, Ok, Err, sym, refl, subst, arith}
+use Rattle.std.proofs.Common.{◌≡◌, ℕ, ◌+◌, ◌≤◌, ◌∷◌, Ok, Err, sym, refl, ◌∙◌, subst, arith}
 use Rattle.refusal.specs.declared.Refusal.{Refusal}
 use Rattle.lattice.specs.declared.vector.Vector.{Vector}
 use Rattle.lattice.specs.declared.condition.Reply.{Reply}
@@ -78,20 +78,20 @@ module _ {holds : Vector → Type 0} {reply : Vector → Reply} (laws : Lawful h
             let lt = laws.place u p h r in
             omega (arith, sp, big, climb_sum laws climb, total_strict u p h lt (laws.rises u p h r) (omega (arith, le, top.bounded p lt)))
 
+  -- a run that ends on found or none
+  settled : {l : History} {c : Board} {budget n : ℕ} → Keeps laws (run budget (answer_of c.verdict) n (reading c) ∷ l) c → (IsOpen c.verdict → ⊥)
+      → RunPromise holds reply budget (answer_of c.verdict) n (run budget (answer_of c.verdict) n (reading c) ∷ l) (reading c)
+  settled {c = c} k shut = record {
+    stands = tells c.verdict;
+    exact = λ f. absurd (shut (pending_open c.verdict f));
+    next = λ f. absurd (shut (pending_open c.verdict f));
+    decided = λ big. decides c.verdict shut (λ f. (least k f).solves) (none_left k);
+  }
+
   run_promise : {l : History} {b c : Board} {budget n : ℕ} → Keeps laws (run budget (answer_of c.verdict) n (reading c) ∷ l) c → RunStep reply budget b n c
       → RunPromise holds reply budget (answer_of c.verdict) n (run budget (answer_of c.verdict) n (reading c) ∷ l) (reading c)
-  run_promise {c = c} k (found e) = record {
-    stands = tells c.verdict;
-    exact = λ f. absurd (open_not_found (pending_open c.verdict f) e);
-    next = λ f. absurd (open_not_found (pending_open c.verdict f) e);
-    decided = λ big. decides c.verdict (λ o. open_not_found o e) (λ f. (least k f).solves) (none_left k);
-  }
-  run_promise {c = c} k (none e) = record {
-    stands = tells c.verdict;
-    exact = λ f. absurd (open_not_none (pending_open c.verdict f) e);
-    next = λ f. absurd (open_not_none (pending_open c.verdict f) e);
-    decided = λ big. decides c.verdict (λ o. open_not_none o e) (λ f. (least k f).solves) (none_left k);
-  }
+  run_promise k (found e) = settled k (λ o. open_not_found o e)
+  run_promise k (none e) = settled k (λ o. open_not_none o e)
   run_promise {c = c} k (searched e s) = record {
     stands = tells c.verdict;
     exact = λ f. (spent_end s.ends (pending_open c.verdict f)).0;
@@ -154,3 +154,22 @@ run_call {holds} {reply} laws {budget} {k} {b} {c} {a} e s = record {
   answer = e;
   promise = λ l r. subst (λ x. Kept holds reply (run budget x k (reading c) ∷ l) c) (sym e) (kept laws (called r (ran s)));
 }
+
+-- a search under way: so many lifts lead from b to the board in hand, and nothing else has changed
+pub record Searching (reply : Vector → Reply) (budget : ℕ) (b : Board) (k : ℕ) (w : Board) : Type 0 where
+  pub climb : Climb reply b.ceilings b.vector k w.vector
+  pub afforded : k ≤ budget
+  pub ceilings : w.ceilings ≡ b.ceilings
+  pub verdict : w.verdict ≡ b.verdict
+  pub count : w.count ≡ b.count + k
+
+-- it ends with a verdict, and the board is the one in hand for the rest
+pub search_ends : {holds : Vector → Type 0} {reply : Vector → Reply} → Lawful holds reply → {budget k : ℕ} {b w c : Board} {a : Answer} → IsOpen b.verdict → Searching reply budget b k w → c.vector ≡ w.vector → c.ceilings ≡ w.ceilings → c.count ≡ w.count → a ≡ answer_of c.verdict → Ends reply b.ceilings budget k w.vector c.verdict → RunCall holds reply budget b a c
+search_ends {holds} {reply} laws {budget} {k} {b} {w} {c} before s vector ceilings count e ends =
+    run_call laws e (searched before (record {
+      climb = rw vector s.climb;
+      afforded = s.afforded;
+      ends = rw vector ends;
+      ceilings = ceilings ∙ s.ceilings;
+      count = count ∙ s.count;
+    }))

@@ -1,7 +1,11 @@
 -- Vectors, place by place. Assumes nothing.
-use Rattle.std.specs.Prelude.{◌≡◌, ℕ, ◌<◌, ◌≤◌, slice_index, slice_set}
+use Rattle.std.specs.Prelude.{◌≡◌, ℕ, ◌<◌, ◌≤◌, List, slice_index, slice_set}
 use Rattle.lattice.specs.Limits.{places}
 use Rattle.lattice.specs.declared.vector.Vector.{Vector}
+
+-- the heights of all places, in their order
+abbrev pub heights_of : Vector → List ℕ
+heights_of v = v.heights
 
 -- the height at place i
 abbrev pub at : Vector → ℕ → ℕ

@@ -1,16 +1,18 @@
 -- Places and heights that are taken, and those that are refused. Assumes nothing.
 use Rattle.std.specs.Prelude.{◌≡◌, ℕ, ◌<◌, ◌≤◌, List, slice_index}
 use Rattle.refusal.specs.declared.Refusal.{Refusal}
+use Rattle.refusal.specs.declared.Rule.TheVariants.{Place, Height}
 use Rattle.refusal.specs.declared.Layer.TheVariants.{Board}
+use Rattle.refusal.specs.Table.{row}
 use Rattle.lattice.specs.Limits.{places, highest}
 
 -- there is no place p
 abbrev pub no_place_refusal : ℕ → Refusal
-no_place_refusal p = record { number = 13; position = p; layer = Board }
+no_place_refusal p = row Place p Board
 
 -- the height given for place p is too great
 abbrev pub too_high_refusal : ℕ → Refusal
-too_high_refusal p = record { number = 14; position = p; layer = Board }
+too_high_refusal p = row Height p Board
 
 -- a place and a height that a floor or a ceiling takes
 abbrev pub Accepted : ℕ → ℕ → Type 0

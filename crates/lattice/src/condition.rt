@@ -38,3 +38,16 @@ pub trait Condition {
 
     ghost lawful: { (c : Self) → Lawful (holds c) (reply c) };
 }
+
+// A condition that is lent and not owned is the same condition.
+impl<'a, C: Condition> Condition for &'a C {
+    ghost holds = { λ c v. C.Condition.holds c.now v };
+
+    ghost reply = { λ c v. C.Condition.reply c.now v };
+
+    ghost lawful = { λ c. C.Condition.lawful c.now };
+
+    fn probe(&self, v: &Vector) -> Reply {
+        (**self).probe(v)
+    }
+}

@@ -7,7 +7,8 @@ pub const PLACES: usize = 32;
 
 pub const HIGHEST: u32 = 1_000_000;
 
-// A height for each place.
+// A height for each place. Clauses see it as this record, since the laws of conditions are for heights that are bounded so;
+// a model would show them a bare list.
 #[derive(Clone, Copy)]
 pub struct Vector {
     heights: [u32; PLACES],

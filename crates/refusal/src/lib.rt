@@ -1,10 +1,52 @@
 #![tactic(auto)]
 
 ghost use Rattle.std.specs.Prelude.{◌≡◌, Some};
-ghost use Rattle.refusal.specs.Table.{layer_word, refusal_words};
+ghost use Rattle.refusal.specs.Table.{number_of, layer_word, refusal_words};
 
 use std::error::Error;
 use std::fmt;
+
+// The rules that a file or a call can break, as the rows of the table of refusals have them.
+#[derive(Clone, Copy, Debug, PartialEq, Eq)]
+pub enum Rule {
+    TooLong,
+    Missing,
+    Version,
+    Length,
+    Letter,
+    Count,
+    Field,
+    Event,
+    Message,
+    Row,
+    Behind,
+    Room,
+    Place,
+    Height,
+}
+
+impl From<Rule> for u8 {
+    ghost from_gives = { λ rule number. number ≡ number_of rule };
+
+    fn from(rule: Rule) -> u8 {
+        match rule {
+            Rule::TooLong => 1,
+            Rule::Missing => 2,
+            Rule::Version => 3,
+            Rule::Length => 4,
+            Rule::Letter => 5,
+            Rule::Count => 6,
+            Rule::Field => 7,
+            Rule::Event => 8,
+            Rule::Message => 9,
+            Rule::Row => 10,
+            Rule::Behind => 11,
+            Rule::Room => 12,
+            Rule::Place => 13,
+            Rule::Height => 14,
+        }
+    }
+}
 
 // Where a refusal comes from.
 #[derive(Clone, Copy, Debug, PartialEq, Eq)]
@@ -39,12 +81,21 @@ impl fmt::Display for Layer {
     }
 }
 
-// A row of the table of refusals: which rule was broken, where, and which layer says so.
+// A refusal: which rule was broken, where, and which layer says so.
 #[derive(Clone, Copy, Debug, PartialEq, Eq)]
 pub struct Refusal {
-    pub number: u8,
+    pub rule: Rule,
     pub position: usize,
     pub layer: Layer,
+}
+
+impl Refusal {
+    // The number of the broken rule in the table of refusals.
+    pub fn number(&self) -> u8
+        ensures { result ≡ number_of self.now.rule }
+    {
+        u8::from(self.rule)
+    }
 }
 
 impl fmt::Display for Refusal {
@@ -54,7 +105,7 @@ impl fmt::Display for Refusal {
         write!(
             f,
             "refused {} at {} in {}",
-            self.number,
+            self.number(),
             self.position,
             self.layer
         )

@@ -6,27 +6,20 @@ ghost use Rattle.lattice.specs.Calls.{StartsAll, ContinuesAll, BoundCall, RunCal
 
 use crate::board::{Board, Reading};
 use crate::condition::{Condition, Reply};
+use crate::refuse::refuse;
 use crate::vector::{HIGHEST, PLACES, Vector};
 use crate::verdict::{Answer, Verdict};
-use refusal::{Layer, Refusal};
+use refusal::{Refusal, Rule};
 
 // Whether a floor or a ceiling takes the place and the height.
 fn admit(place: usize, height: u32) -> Result<(), Refusal>
     ensures { MatchResult result (λ _. Accepted place height) (λ e. Refused place height e) }
 {
     if place >= PLACES {
-        return Err(Refusal {
-            number: 13,
-            position: place,
-            layer: Layer::Board,
-        });
+        return Err(refuse(Rule::Place, place));
     }
     if height > HIGHEST {
-        return Err(Refusal {
-            number: 14,
-            position: place,
-            layer: Layer::Board,
-        });
+        return Err(refuse(Rule::Height, place));
     }
     Ok(())
 }
@@ -93,6 +86,7 @@ impl Board {
             Verdict::Found => Answer::Found,
             Verdict::None => Answer::None,
             Verdict::Open => {
+                // Counted by hand: a run of budget lifts makes one probe more, and ends by the reply to it, so no range is its turns.
                 let mut used = 0u32;
                 loop {
                     match condition.probe(&self.vector) {

@@ -1,30 +1,25 @@
 ghost use Rattle.std.specs.Prelude.{◌≡◌, ◌<◌, ◌≤◌, replicate, MatchResult};
 ghost use Rattle.lattice.specs.Limits.{places, highest};
-ghost use Rattle.lattice.specs.Order.{at, With};
+ghost use Rattle.lattice.specs.Order.{heights_of, at, With};
 ghost use Rattle.lattice.specs.Refusals.{no_place_refusal, FirstTooHigh};
 
+use crate::refuse::refuse;
 use crate::vector::{HIGHEST, PLACES, Vector};
-use refusal::{Layer, Refusal};
+use refusal::{Refusal, Rule};
 
 impl Vector {
     // The vector with these heights; the first place that is too high is refused.
     pub fn new(heights: [u32; PLACES]) -> Result<Vector, Refusal>
-        ensures { MatchResult result (λ v. v.heights ≡ heights) (λ e. FirstTooHigh heights e) }
+        ensures { MatchResult result (λ v. heights_of v ≡ heights) (λ e. FirstTooHigh heights e) }
     {
-        for place in 0..PLACES {
-            if heights[place] > HIGHEST {
-                return Err(Refusal {
-                    number: 14,
-                    position: place,
-                    layer: Layer::Board,
-                });
-            }
+        match heights.iter().position(|&height| height > HIGHEST) {
+            Some(place) => Err(refuse(Rule::Height, place)),
+            None => Ok(Vector { heights }),
         }
-        Ok(Vector { heights })
     }
 
     pub fn heights(&self) -> &[u32; PLACES]
-        ensures { result.now ≡ self.now.heights }
+        ensures { result.now ≡ heights_of self.now }
     {
         &self.heights
     }
@@ -33,20 +28,16 @@ impl Vector {
     pub fn height(&self, place: usize) -> Result<u32, Refusal>
         ensures { MatchResult result (λ h. (place < places) × (h ≡ at self.now place)) (λ e. (places ≤ place) × (e ≡ no_place_refusal place)) }
     {
-        if place >= PLACES {
-            return Err(Refusal {
-                number: 13,
-                position: place,
-                layer: Layer::Board,
-            });
-        }
-        Ok(self.heights[place])
+        self.heights
+            .get(place)
+            .copied()
+            .ok_or(refuse(Rule::Place, place))
     }
 
     // The vector that has one height everywhere.
     pub(crate) fn level(height: u32) -> Vector
         requires { height ≤ highest }
-        ensures { result.heights ≡ replicate places height }
+        ensures { heights_of result ≡ replicate places height }
     {
         Vector {
             heights: [height; PLACES],

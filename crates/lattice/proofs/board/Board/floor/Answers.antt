@@ -1,7 +1,7 @@
-use Rattle.std.proofs.Common.{◌≡◌, ◌≤◌, max, refl, arith, rules}
+use Rattle.std.proofs.Common.{◌≡◌, max, refl, arith, rules}
 use Rattle.std.proofs.lemmas.Result.{err_from_is_err_and}
 use Rattle.lattice.specs.Order.{at, With}
-use Rattle.lattice.proofs.Heights.{set_here, set_sum}
+use Rattle.lattice.proofs.Heights.{set_here}
 use Rattle.lattice.proofs.Promised.{floor_taken, floor_unmoved}
 use Rattle.lattice.proofs.board.Board.floor.Goals as goal
 use Rattle.lattice.proofs.board.Board.floor.Goals.{then-after-at, else-after-at+then-after-before, else-after-at+else-after-before}
@@ -9,11 +9,6 @@ use Rattle.lattice.proofs.board.Board.floor.Goals.{then-after-at, else-after-at+
 pub returns-in_err-admit : goal.returns-in_err-admit
 returns-in_err-admit c =
     let p = err_from_is_err_and c.from_residual.result c.from_residual.ensures.1 in rw (p.1, p.2) (floor_unmoved c.in_err-admit.ensures)
-
-pub invariant_of-self : goal.invariant_of-self
-invariant_of-self c =
-    let least : at c.args.self.now.vector c.args.place ≤ c.max-after.result = search rules in
-    record { counted = omega (arith, set_sum c.args.self.now.vector c.put.new.self c.args.place c.max-after.result c.in_ok-admit.ensures.0 c.put.ensures) }
 
 pub returns : goal.returns
 returns c =

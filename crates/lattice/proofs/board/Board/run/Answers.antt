@@ -1,14 +1,14 @@
 use Rattle.std.proofs.Common.{◌<◌, sum, sym, refl, ap, ◌∙◌, arith}
 use Rattle.lattice.specs.Order.{at}
-use Rattle.lattice.specs.Steps.{answer_of, stay, lift, holds, never, above, spent, found, none, searched}
+use Rattle.lattice.specs.Steps.{answer_of, stay, lift, holds, never, above, spent, found, none}
 use Rattle.lattice.proofs.Heights.{set_sum, total_bound}
-use Rattle.lattice.proofs.Promised.{run_call}
+use Rattle.lattice.proofs.Promised.{run_call, search_ends}
 use Rattle.lattice.proofs.board.Board.run.Given as given
 use Rattle.lattice.proofs.board.Board.run.Goals as goal
 use Rattle.lattice.proofs.board.Board.run.Goals.{After-put}
 
 pub loop-self-init : goal.loop-self-init
-loop-self-init g c = (stay, omega arith, refl, refl, omega arith)
+loop-self-init g c = record { climb = stay; afforded = omega arith; ceilings = refl; verdict = refl; count = omega arith }
 
 pub returns-in-Found : goal.returns-in-Found
 returns-in-Found g c = run_call (g.met.C.Condition.lawful c.args.condition.now) (sym (ap answer_of c.in-Found.is)) (found c.in-Found.is)
@@ -18,38 +18,25 @@ returns-in-None g c = run_call (g.met.C.Condition.lawful c.args.condition.now) (
 
 pub returns-in-Holds : goal.returns-in-Holds
 returns-in-Holds g c =
-    let inv = c.loop-self.invariant in
-    run_call (g.met.C.Condition.lawful c.args.condition.now) refl
-    (searched c.in-Open.is (record { climb = inv.0; afforded = inv.1; ends = holds (sym c.in-Holds.ensures); ceilings = inv.2; count = inv.4 }))
+    search_ends (g.met.C.Condition.lawful c.args.condition.now) c.in-Open.is c.loop-self.invariant refl refl refl refl (holds (sym c.in-Holds.ensures))
 
 pub returns-in-Never : goal.returns-in-Never
 returns-in-Never g c =
-    let inv = c.loop-self.invariant in
-    run_call (g.met.C.Condition.lawful c.args.condition.now) refl
-    (searched c.in-Open.is (record { climb = inv.0; afforded = inv.1; ends = never (sym c.in-Never.ensures); ceilings = inv.2; count = inv.4 }))
-
-pub at-requires : goal.at-requires
-at-requires g c = (g.met.C.Condition.lawful c.args.condition.now).place _ _ _ (sym c.in-Lift.ensures)
+    search_ends (g.met.C.Condition.lawful c.args.condition.now) c.in-Open.is c.loop-self.invariant refl refl refl refl (never (sym c.in-Never.ensures))
 
 pub returns-then-height-at : goal.returns-then-height-at
 returns-then-height-at g c =
-    let inv = c.loop-self.invariant in
-    let top = ap (λ t. at t c.in-Lift.place) inv.2 in
-    run_call (g.met.C.Condition.lawful c.args.condition.now) refl
-    (searched c.in-Open.is (record { climb = inv.0; afforded = inv.1; ends = above (sym c.in-Lift.ensures) (omega arith); ceilings = inv.2; count = inv.4 }))
+    let top = ap (λ t. at t c.in-Lift.place) c.loop-self.invariant.ceilings in
+    search_ends (g.met.C.Condition.lawful c.args.condition.now) c.in-Open.is c.loop-self.invariant refl refl refl refl
+    (above (sym c.in-Lift.ensures) (omega arith))
 
 pub returns-then-used-budget : goal.returns-then-used-budget
 returns-then-used-budget g c =
     let inv = c.loop-self.invariant in
-    let top = ap (λ t. at t c.in-Lift.place) inv.2 in
-    let still = inv.3 ∙ c.in-Open.is in
-    run_call (g.met.C.Condition.lawful c.args.condition.now) (sym (ap answer_of still))
-    (searched c.in-Open.is (record { climb = inv.0; afforded = inv.1; ends = rw still (spent (_, _, sym c.in-Lift.ensures, omega arith) (omega arith)); ceilings = inv.2; count = inv.4 }))
-
-pub put-requires : goal.put-requires
-put-requires g c =
-    let lt = (g.met.C.Condition.lawful c.args.condition.now).place _ _ _ (sym c.in-Lift.ensures) in
-    (lt, omega (arith, c.loop-self.self.ceilings.bounded c.in-Lift.place lt))
+    let top = ap (λ t. at t c.in-Lift.place) inv.ceilings in
+    let still = inv.verdict ∙ c.in-Open.is in
+    search_ends (g.met.C.Condition.lawful c.args.condition.now) c.in-Open.is inv refl refl refl (sym (ap answer_of still))
+    (rw still (spent (_, _, sym c.in-Lift.ensures, omega arith) (omega arith)))
 
 pub overflow_add-self : goal.overflow_add-self
 overflow_add-self g c = omega (arith, total_bound c.loop-self.self.vector, c.loop-self.self.counted)
@@ -70,5 +57,11 @@ loop-self-smaller g c = omega (arith, rises g (goal.at.loop-self-smaller g c).Af
 pub loop-self-preserved : goal.loop-self-preserved
 loop-self-preserved g c =
     let inv = c.loop-self.invariant in
-    let top = ap (λ t. at t c.in-Lift.place) inv.2 in
-    (lift inv.0 (sym c.in-Lift.ensures) (omega arith) c.put.ensures, omega arith, inv.2, inv.3, omega arith)
+    let top = ap (λ t. at t c.in-Lift.place) inv.ceilings in
+    record {
+      climb = lift inv.climb (sym c.in-Lift.ensures) (omega arith) c.put.ensures;
+      afforded = omega arith;
+      ceilings = inv.ceilings;
+      verdict = inv.verdict;
+      count = omega arith;
+    }
