@@ -1,5 +1,6 @@
 use gates::fault::OrderFault;
 use gates::gates::Gates;
+use gates::side::Side;
 
 const COUNT: usize = 6;
 
@@ -26,9 +27,10 @@ const GATES: [[u8; COUNT]; COUNT] = [
 // The depot that this program places.
 pub fn depot() -> Result<Gates, OrderFault> {
     let mut gates = Gates::new(COUNT).ok_or(OrderFault::Row)?;
-    for row in 0..COUNT {
-        gates.put_van(row, &VANS[row])?;
-        gates.put_gate(row, &GATES[row])?;
+    for (side, orders) in [(Side::Vans, VANS), (Side::Gates, GATES)] {
+        for (row, order) in orders.iter().enumerate() {
+            gates.put(side, row, order)?;
+        }
     }
     Ok(gates)
 }

@@ -5,6 +5,7 @@ mod report;
 
 use crate::depot::depot;
 use crate::report::Placing;
+use anyhow::Context;
 use lattice::board::Board;
 use std::io;
 
@@ -24,7 +25,10 @@ fn move_down(
     van: usize,
     position: u32,
 ) -> anyhow::Result<()> {
-    placing.board.floor(van, position)?;
+    placing
+        .board
+        .floor(van, position)
+        .context("the floor is refused")?;
     println!(rt; "floor {van} {position}")?;
     search(rt, placing)?;
     Ok(())
@@ -33,7 +37,7 @@ fn move_down(
 // Places the vans of the depot, then moves one van down its order until no placing is left.
 fn run(rt: &impl Print) -> anyhow::Result<()> {
     let mut placing = Placing {
-        gates: depot()?,
+        gates: depot().context("the depot's orders are refused")?,
         board: Board::new(),
     };
     search(rt, &mut placing)?;

@@ -1,9 +1,10 @@
--- A row and its ranks: as they are filled in, and what they say when they are full. Assumes nothing.
-use Rattle.std.proofs.Common.{◌≡◌, ℕ, ◌<◌, ◌≤◌, not, eqb, List, [], ◌∷◌, length, get_or, set, sym, refl, ap, ◌∙◌, subst, ⊎_elim, arith}
-use Rattle.std.proofs.lemmas.List.{get_or-set_same, get_or-set_other}
-use Rattle.std.proofs.lemmas.Bool.{cases_eq, eqb-true, not-false}
-use Rattle.lattice.proofs.First.{none_passes}
-use Rattle.gates.specs.Orders.{most, position, Whole}
+-- A row and its ranks, as they are filled in and when they are full; and the rows of a table. Assumes nothing.
+use Rattle.std.specs.List.{All}
+use Rattle.std.proofs.Common.{◌≡◌, ℕ, ◌+◌, ◌-◌, ◌<◌, List, [], length, get_or, set, take, drop, sym, refl, ap, ◌∙◌, subst, arith}
+use Rattle.std.proofs.lemmas.List.{get_or-map, get_or-set_same, get_or-set_other, get_or-take, get_or-drop, length-map, length-take-le, length-drop, map-set}
+use Rattle.gates.specs.declared.order.Order.{Order}
+use Rattle.gates.specs.Orders.{most, number_at, position, Whole, OrderOf, Put}
+use Rattle.gates.specs.Gates.{rows_of}
 use Rattle.gates.specs.Positions.{Ranked, ranked_from, stands}
 
 -- the first p numbers of the order are copied to the row, and each has its position among the ranks, where others have n
@@ -48,29 +49,53 @@ sound n order row ranks f =
     let whole : Ranked n at_row = filled_ranked n at_row row ranks own in
     record { whole = whole; ranked = λ x l. ap (λ y. get_or ranks y 0) (sym (stands whole x l)) ∙ own.marked (position n at_row x) (whole.every x l) }
 
--- what holds of each row with its ranks, and of those that are put at i, holds of each row after
-pub put_each : (P : List ℕ → List ℕ → Type 0) (rows ranks : List (List ℕ)) (i : ℕ) (row rank : List ℕ) → i < length rows → i < length ranks → P row rank
-    → (j : ℕ) → P (get_or rows j []) (get_or ranks j []) → P (get_or (set rows i row) j []) (get_or (set ranks i rank) j [])
-put_each P rows ranks i row rank l l' here j old =
-    ⊎_elim
-    (λ (e : j ≡ i). subst (λ k. P (get_or (set rows i row) k []) (get_or (set ranks i rank) k [])) (sym e)
-    (rw (get_or-set_same rows i row [] l, get_or-set_same ranks i rank [] l') here))
-    (λ (ne : j ≡ i → ⊥). rw (get_or-set_other rows i j row [] ne, get_or-set_other ranks i j rank [] ne) old)
-    (cases_eq j i)
+-- 0, 1, 2 and so on, which are their own ranks
+pub ascending_sound : (n : ℕ) (row : List ℕ) → ((p : ℕ) → p < n → get_or row p 0 ≡ p) → Sound n row row
+ascending_sound n row each =
+    let order : ℕ → ℕ = λ p. get_or row p 0 in
+    let whole : Ranked n order = ranked_from (λ k l. omega (arith, each k l)) (λ j k lj lk e. omega (arith, each j lj, each k lk)) in
+    record { whole = whole; ranked = λ x l. each x l ∙ sym (subst (λ y. position n order y ≡ x) (each x l) (whole.once x l)) }
 
--- 0, 1, 2 and so on
-abbrev pub line : List ℕ
-line = 0 ∷ 1 ∷ 2 ∷ 3 ∷ 4 ∷ 5 ∷ 6 ∷ 7 ∷ 8 ∷ 9 ∷ 10 ∷ 11 ∷ 12 ∷ 13 ∷ 14 ∷ 15 ∷ []
+-- the row of an order that stands in a table
+pub row_at : (table : List Order) (i : ℕ) (o : Order) → i < length table → get_or (rows_of table) i [] ≡ (get_or table i o).numbers
+row_at table i o lt = get_or-map (λ (x : Order). x.numbers) table i o [] lt
 
-pub line_at : (p : ℕ) → p < most → get_or line p 0 ≡ p
-line_at p l = eqb-true (get_or line p 0) p (not-false (eqb (get_or line p 0) p) (none_passes (λ k. not (eqb (get_or line k 0) k)) most refl p l))
+-- so the rank of a number in that order is its position in that row
+pub rank_at : (n : ℕ) (table : List Order) (i : ℕ) (o : Order) (x r : ℕ) → All (λ (y : Order). y.count ≡ n) table → i < length table →
+    r ≡ position (get_or table i o).count (λ p. get_or (get_or table i o).numbers p 0) x → r ≡ position n (number_at (rows_of table) i) x
+rank_at n table i o x r even lt at =
+    at ∙ ap (λ k. position k (λ p. get_or (get_or table i o).numbers p 0) x) (even i o lt)
+    ∙ ap (λ row. position n (λ p. get_or row p 0) x) (sym (row_at table i o lt))
 
-pub line_sound : (n : ℕ) → n ≤ most → Sound n line line
-line_sound n few = sound n (λ p. get_or line p 0) line line (record {
-  wide = refl;
-  long = refl;
-  copied = λ k l. refl;
-  small = λ k l. omega (arith, line_at k (omega arith));
-  marked = λ k l. let e = line_at k (omega arith) in ap (λ x. get_or line x 0) e ∙ e;
-  marks = λ x l r. let e = line_at x (omega arith) in (r, ap (λ y. get_or line y 0) e ∙ e);
-})
+-- what is left of that order from a position on
+module _ (n : ℕ) (table : List Order) (i : ℕ) (o : Order) (even : All (λ (y : Order). y.count ≡ n) table) (lt : i < length table) (numbers : List ℕ)
+    (is : numbers ≡ take (get_or table i o).count (get_or table i o).numbers) (from : ℕ) where
+  abbrev left : List ℕ
+  left = take (length numbers - from) (drop from numbers)
+
+  long : length numbers ≡ n
+  long =
+      let x = get_or table i o in
+      ap length is ∙ length-take-le x.count x.numbers (omega (arith, x.few, x.wide.0)) ∙ even i o lt
+
+  pub left_long : length left ≡ n - from
+  left_long = length-take-le (length numbers - from) (drop from numbers) (omega (arith, length-drop from numbers)) ∙ ap (λ (k : ℕ). k - from) long
+
+  pub left_at : (past : ℕ) → past < length left → get_or left past 0 ≡ number_at (rows_of table) i (from + past)
+  left_at past l =
+      let x = get_or table i o in
+      get_or-take (length numbers - from) (drop from numbers) past 0 (omega (arith, left_long, long)) ∙ get_or-drop from numbers past 0
+      ∙ ap (λ xs. get_or xs (from + past) 0) is ∙ get_or-take x.count x.numbers (from + past) 0 (omega (arith, left_long, even i o lt))
+      ∙ ap (λ row. get_or row (from + past) 0) (sym (row_at table i o lt))
+
+-- an order that is put in a table takes one row, and no other
+pub put_row : (n : ℕ) (table : List Order) (i : ℕ) (o : Order) (list : List ℕ) → i < length table → i < n → OrderOf n list →
+    ((p : ℕ) → p < n → get_or o.numbers p 0 ≡ get_or list p 0) → Put n i list (number_at (rows_of table)) (number_at (rows_of (set table i o)))
+put_row n table i o list lt inside order same =
+    let put : rows_of (set table i o) ≡ set (rows_of table) i o.numbers = map-set (λ (x : Order). x.numbers) table i o in
+    record {
+      row = inside;
+      order = order;
+      here = λ p l. ap (λ t. number_at t i p) put ∙ ap (λ r. get_or r p 0) (get_or-set_same (rows_of table) i o.numbers [] (omega (arith, length-map table (λ (x : Order). x.numbers)))) ∙ same p l;
+      others = λ k p ne. ap (λ t. number_at t k p) put ∙ ap (λ r. get_or r p 0) (get_or-set_other (rows_of table) i k o.numbers [] ne);
+    }

@@ -1,20 +1,26 @@
 -- The orders of vans and gates as a search holds them, and what the public calls say. Assumes nothing.
-use Rattle.std.specs.Prelude.{◌≡◌, ℕ, ◌<◌, ◌≤◌, List, Option, Result, MatchOption, MatchResult}
+use Rattle.std.specs.Prelude.{◌≡◌, ℕ, ◌<◌, ◌≤◌, List, Option, Result, map, MatchOption, MatchResult}
 use Rattle.lattice.specs.declared.vector.Vector.{Vector}
 use Rattle.lattice.specs.declared.condition.Reply.{Reply}
 use Rattle.lattice.specs.declared.condition.Reply.TheVariants.{Holds}
 use Rattle.lattice.specs.Order.{at}
 use Rattle.gates.specs.declared.fault.OrderFault.{OrderFault}
 use Rattle.gates.specs.declared.gates.Gates.{Gates}
-use Rattle.gates.specs.declared.orders.Orders.{Orders}
+use Rattle.gates.specs.declared.order.Order.{Order}
+use Rattle.gates.specs.declared.side.Side.{Side}
+use Rattle.gates.specs.declared.side.Side.TheVariants as side
 use Rattle.gates.specs.Orders.{most, number_at, Whole, Unfit, Put}
 use Rattle.gates.specs.Stable.{Sides, reach, Stable}
 use Rattle.gates.specs.Rivals.{Settled, Says}
 use Rattle.gates.specs.Reply.{reply_to}
 
+-- the numbers of each order of a table
+abbrev pub rows_of : List Order → List (List ℕ)
+rows_of table = map (λ (o : Order). o.numbers) table
+
 -- the orders that the two tables hold; numbers from n on mean nothing
 abbrev pub sides : Gates → Sides
-sides m = record { n = m.vans.count; van = number_at m.vans.rows; gate = number_at m.gates.rows }
+sides m = record { n = m.count; van = number_at (rows_of m.vans); gate = number_at (rows_of m.gates) }
 
 -- n vans and n gates, with the order 0, 1, 2 and so on for each
 pub record Plain (n : ℕ) (m : Gates) : Type 0 where
@@ -26,21 +32,21 @@ pub record Plain (n : ℕ) (m : Gates) : Type 0 where
 abbrev pub Started : ℕ → Option Gates → Type 0
 Started n r = MatchOption r (most < n) (λ m. (n ≤ most) × Plain n m)
 
--- an order for row i of one of the two tables: it is taken and replaces that row alone, or is refused and changes nothing
-module _ (table other : Gates → Orders) where
-  abbrev pub RowPut : ℕ → List ℕ → Gates → Result (Unit {0}) OrderFault → Gates → Type 0
-  RowPut i list m r m' =
-      MatchResult r
-      (λ _. Put (sides m).n i list (number_at (table m).rows) (number_at (table m').rows) × ((sides m').n ≡ (sides m).n) × (other m' ≡ other m))
-      (λ e. Unfit (sides m).n i list e × (m' ≡ m))
+-- the table of a side, and that of the other
+abbrev pub table_of : Side → Gates → List Order
+table_of side.Vans m = m.vans
+table_of side.Gates m = m.gates
 
--- an order of the gates for a van
-abbrev pub VanPut : ℕ → List ℕ → Gates → Result (Unit {0}) OrderFault → Gates → Type 0
-VanPut = RowPut (λ m. m.vans) (λ m. m.gates)
+abbrev pub other_of : Side → Gates → List Order
+other_of side.Vans m = m.gates
+other_of side.Gates m = m.vans
 
--- an order of the vans for a gate
-abbrev pub GatePut : ℕ → List ℕ → Gates → Result (Unit {0}) OrderFault → Gates → Type 0
-GatePut = RowPut (λ m. m.gates) (λ m. m.vans)
+-- an order for row i of a side: it is taken and replaces that row alone, or is refused and changes nothing
+abbrev pub RowPut : Side → ℕ → List ℕ → Gates → Result (Unit {0}) OrderFault → Gates → Type 0
+RowPut s i list m r m' =
+    MatchResult r
+    (λ _. Put (sides m).n i list (number_at (rows_of (table_of s m))) (number_at (rows_of (table_of s m'))) × ((sides m').n ≡ (sides m).n) × (other_of s m' ≡ other_of s m))
+    (λ e. Unfit (sides m).n i list e × (m' ≡ m))
 
 -- the gate at a position of van i's order, where there is such a van and such a position
 abbrev pub GateAt : Gates → ℕ → ℕ → Option ℕ → Type 0

@@ -54,7 +54,7 @@ module _ (m : Gates) where
   nowhere h h' up _ (holds st') e st = wrong cc
 
   further : (v w : Vector) → AtMost v w → Further (sides m) (at v) (at w)
-  further v w below j lt = below j (omega (arith, m.vans.few))
+  further v w below j lt = below j (omega (arith, m.few))
 
   to : (v : Vector) (p q : ℕ) → reply_to (sides m) (at v) ≡ Lift (p, q) → Lifted (sides m) (at v) p q
   to v p q e = lifted (sides m) (at v) (reply_to (sides m) (at v)) p q (says (sides m) (at v)) e
@@ -63,7 +63,7 @@ module _ (m : Gates) where
   lawful = record {
     holds_then = λ v e. then (at v) (reply_to (sides m) (at v)) (says (sides m) (at v)) e;
     holds_only = λ v st. only (at v) st;
-    place = λ v p q e. omega (arith, (to v p q e).in_range, m.vans.few);
+    place = λ v p q e. omega (arith, (to v p q e).in_range, m.few);
     rises = λ v p q e. (to v p q e).rises;
     needed = λ v p q e w below st.
         let up = further v w below in

@@ -1,8 +1,12 @@
 -- n numbers below n, no two alike, are all of them. Assumes nothing.
-use Rattle.std.specs.Prelude.{◌≡◌, ℕ, zero, suc, ◌<◌, ◌≤◌, cond, ◌==◌, ◌≢◌}
-use Rattle.std.proofs.Common.{⊎_elim, arith}
-use Rattle.std.proofs.lemmas.Bool.{cases_lt}
-use Rattle.std.proofs.lemmas.Bool.Decides.{nat_tests}
+use Rattle.std.specs.List.{All, AllByRecursion, IsDistinct, list_any, range_with_len}
+use Rattle.std.proofs.Common.{◌≡◌, ℕ, ◌<◌, ◌≢◌, List, ◌∷◌, length, map, get_or, eqb, true, false, sym, ◌∙◌, arith}
+use Rattle.std.proofs.lemmas.Bool.{eqb-true, ne_eqb}
+use Rattle.std.proofs.lemmas.List.Elements.{All-cons, recursion_from_All}
+use Rattle.std.proofs.lemmas.List.Folds.{Any-from_list_any}
+use Rattle.std.proofs.lemmas.List.FromFn.{length-map-range_with_len, get_or-map-range_with_len}
+use Rattle.std.proofs.lemmas.Map.Keys.{IsDistinct-cons, IsDistinct-from_apart}
+use Rattle.std.proofs.lemmas.Map.Steps.{length-le_from_distinct_below}
 
 abbrev pub Into : ℕ → ℕ → (ℕ → ℕ) → Type 0
 Into n m f = (k : ℕ) → k < n → f k < m
@@ -10,31 +14,32 @@ Into n m f = (k : ℕ) → k < n → f k < m
 abbrev pub Apart : ℕ → (ℕ → ℕ) → Type 0
 Apart n f = (j k : ℕ) → j < n → k < n → f j ≡ f k → j ≡ k
 
--- m is put at y, which nothing else takes
-abbrev moved : ℕ → ℕ → ℕ → ℕ
-moved m y x = cond (x == m) y x
+-- else one that is missed would make n + 1 numbers below n
+module _ (n : ℕ) (f : ℕ → ℕ) (into : Into n n f) (apart : Apart n f) (x : ℕ) (lx : x < n) (miss : (k : ℕ) → k < n → f k ≢ x) where
+  abbrev all : List ℕ
+  all = map f (range_with_len 0 n)
 
-moved_into : (m y x : ℕ) → x < suc m → y < suc m → (x ≢ y) → moved m y x < m
-moved_into m y x lx ly ne = grind (arith, nat_tests)
+  many : length all ≡ n
+  many = length-map-range_with_len f 0 n
 
-moved_apart : (m y x x' : ℕ) → (x ≢ y) → (x' ≢ y) → moved m y x ≡ moved m y x' → x ≡ x'
-moved_apart m y x x' ne ne' e = grind (arith, nat_tests)
+  at : (k d : ℕ) → k < length all → get_or all k d ≡ f k
+  at k d l = get_or-map-range_with_len f 0 n k k d (omega (arith, many)) (omega arith)
 
--- so where a number is missed, there is room for one less
-spare : (m n y : ℕ) (f : ℕ → ℕ) → ((g : ℕ → ℕ) → Into n m g → Apart n g → n ≤ m) → Into n (suc m) f → Apart n f → y < suc m
-    → ((k : ℕ) → k < n → f k ≢ y) → n ≤ m
-spare m n y f fits into apart ly miss =
-    fits (λ k. moved m y (f k)) (λ k l. moved_into m y (f k) (into k l) ly (miss k l))
-    (λ j k lj lk e. apart j k lj lk (moved_apart m y (f j) (f k) (miss j lj) (miss k lk) e))
+  small : All (λ y. y < n) (x ∷ all)
+  small = All-cons (λ y. y < n) x all lx (λ k d l. omega (arith, at k d l, into k (omega (arith, many))))
 
-fit : (m n : ℕ) (f : ℕ → ℕ) → Into n m f → Apart n f → n ≤ m
-fit zero n f into apart = ⊎_elim (λ (l : 0 < n). absurd (omega (arith, into 0 l))) (λ (l : n ≤ 0). l) (cases_lt 0 n)
-fit (suc m) zero f into apart = omega arith
-fit (suc m) (suc n) f into apart =
-    let less = spare m n (f n) f (fit m n) (λ k l. into k (omega arith)) (λ j k lj lk. apart j k (omega arith) (omega arith)) (into n (omega arith))
-    (λ k l e. let same : k ≡ n = apart k n (omega arith) (omega arith) e in omega arith) in
-    omega (arith, less)
+  differ : AllByRecursion (λ y. eqb x y ≡ false) all
+  differ = recursion_from_All _ all (λ k d l. ne_eqb x (get_or all k d) (λ e. miss k (omega (arith, many)) (sym (at k d l) ∙ sym e)))
 
-pub onto : (n : ℕ) (f : ℕ → ℕ) → Into n n f → Apart n f → (x : ℕ) → x < n → ((k : ℕ) → k < n → f k ≢ x) → ⊥
-onto zero f into apart x lx miss = omega arith
-onto (suc m) f into apart x lx miss = omega (arith, spare m (suc m) x f (fit m (suc m)) into apart lx miss)
+  distinct : IsDistinct eqb all
+  distinct = IsDistinct-from_apart eqb all (λ i j d lt lj. ne_eqb (get_or all i d) (get_or all j d) (λ e.
+      let same : i ≡ j = apart i j (omega (arith, many)) (omega (arith, many)) (sym (at i d (omega arith)) ∙ e ∙ at j d lj) in
+      omega arith))
+
+  below : (q : ℕ) → list_any (eqb q) (x ∷ all) ≡ true → q < n
+  below q e =
+      let (k, y, l, here, same) = Any-from_list_any (eqb q) (x ∷ all) e in
+      omega (arith, eqb-true q y same, here, small k y l)
+
+  pub onto : ⊥
+  onto = omega (arith, many, length-le_from_distinct_below (x ∷ all) n (IsDistinct-cons eqb x all differ distinct) below)

@@ -1,11 +1,12 @@
 -- The computed reply is the one in words, and the only one. Assumes nothing.
 use Rattle.std.specs.Prelude.{◌≡◌, ℕ, ◌+◌, ◌<◌, ◌≤◌, Bool, true, false, cond, nat_le, nat_lt}
+use borrow.Author.Count.{below_more}
 use Rattle.std.proofs.Common.{sym, ap, subst, ◌∙◌, ⊎_elim, arith}
 use Rattle.std.proofs.lemmas.Bool.{cond-true, cond-false, cases_Bool, le-leb, lt-leb, leb-true, leb-false, ltb-true, lt-ltb, not-true, not-false, not_from_true, not_from_false}
 use Rattle.lattice.specs.First.{first, some, Least}
 use Rattle.lattice.proofs.First.{first_on, first_least, first_is, some_true, some_false, some_passes, none_passes}
 use Rattle.lattice.specs.declared.condition.Reply.{Reply}
-use Rattle.lattice.specs.declared.condition.Reply.TheVariants.{Holds, Lift}
+use Rattle.lattice.specs.declared.condition.Reply.TheVariants.{Holds, Lift, Never}
 use Rattle.gates.specs.Stable.{Sides, reach, Placed}
 use Rattle.gates.specs.Rivals.{Contested, Says, never, lift, holds}
 use Rattle.gates.specs.Reply.{contested, free, next, lowest, reply_to}
@@ -49,6 +50,18 @@ module _ (s : Sides) (h : ℕ → ℕ) where
       cond-false (some past s.n) _ _ (not_past settled.placed)
       ∙ cond-false (some pressed s.n) _ _ (some_false pressed s.n (λ k l. free_from s h k (h k) (settled.quiet k l)))
 
+  placed_from : some past s.n ≡ false → Placed s h
+  placed_from e k l = leb-false (reach s k) (h k) (none_passes past s.n e k l)
+
+  never_from : some past s.n ≡ true → Says s h Never
+  never_from e =
+      let i = first past 0 s.n in
+      never i (ltb-true i s.n e) (leb-true (reach s i) (h i) (some_passes past s.n e))
+
+  -- some van has no gate
+  pub says_never : (Placed s h → ⊥) → Says s h Never
+  says_never loose = ⊎_elim never_from (λ e. absurd (loose (placed_from e))) (cases_Bool (some past s.n))
+
   -- the lowest van with a rival, and the first free position from its present one on
   pub says_lift : Placed s h → (i q : ℕ) → i < s.n → QuietBelow i → h i < q → Least (free s h i) (h i) s.n q → Says s h (Lift (i, q))
   says_lift placed i q l quiet later least =
@@ -60,24 +73,22 @@ module _ (s : Sides) (h : ℕ → ℕ) where
         free = λ lq. free_then s h i q (not-true (contested s h i q) (least.passes lq));
       })
 
+  -- a van whose first free position is no later than its present one has no rival there
+  pub quiet_more : (i q : ℕ) → QuietBelow i → h i < s.n → q ≤ h i → Least (free s h i) (h i) s.n q → QuietBelow (i + 1)
+  quiet_more i q quiet l le least =
+      let same : q ≡ h i = omega (arith, least.low) in
+      below_more (λ k. pressed k ≡ false) i quiet (not-true (pressed i) (subst (λ p. free s h i p ≡ true) same (least.passes (omega arith))))
+
   pub says_holds : Placed s h → QuietBelow s.n → Says s h Holds
   says_holds placed quiet = holds (record { placed = placed; quiet = λ k l. free_then s h k (h k) (quiet k l) })
 
   pub says : Says s h (reply_to s h)
-  says = ⊎_elim to_never
-      (λ e. ⊎_elim (to_lift (placed e)) (λ q. known (says_holds (placed e) (none_passes pressed s.n q))) (cases_Bool (some pressed s.n)))
+  says = ⊎_elim (λ e. known (never_from e))
+      (λ e. ⊎_elim (to_lift (placed_from e)) (λ q. known (says_holds (placed_from e) (none_passes pressed s.n q))) (cases_Bool (some pressed s.n)))
       (cases_Bool (some past s.n))
     where
       known : {r : Reply} → Says s h r → Says s h (reply_to s h)
       known {r} x = subst (Says s h) (sym (says_is r x)) x
-
-      placed : some past s.n ≡ false → Placed s h
-      placed e k l = leb-false (reach s k) (h k) (none_passes past s.n e k l)
-
-      to_never : some past s.n ≡ true → Says s h (reply_to s h)
-      to_never e =
-          let i = first past 0 s.n in
-          known (never i (ltb-true i s.n e) (leb-true (reach s i) (h i) (some_passes past s.n e)))
 
       to_lift : Placed s h → some pressed s.n ≡ true → Says s h (reply_to s h)
       to_lift all e =

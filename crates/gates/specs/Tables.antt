@@ -1,26 +1,22 @@
--- What the tables of orders hold: each row is whole, and the rows are all that counts. Assumes nothing.
-use Rattle.std.specs.Prelude.{◌≡◌, ℕ, ◌<◌}
-use Rattle.std.proofs.Common.{sym, subst, arith}
-use mathlib.Core.HLevel.{is_prop→PathP}
-use Rattle.std.proofs.Math.Nat.{ℕ_set}
+-- What the tables of orders hold: each row is whole. Assumes nothing.
+use Rattle.std.specs.List.{All}
+use Rattle.std.proofs.Common.{◌≡◌, ℕ, ◌<◌, List, [], length, get_or, subst, arith}
+use Rattle.std.proofs.lemmas.List.{length-map}
+use Rattle.std.proofs.lemmas.List.Elements.{All-get_or, All-map}
 use Rattle.gates.specs.declared.gates.Gates.{Gates}
-use Rattle.gates.specs.declared.orders.Orders.{Orders}
+use Rattle.gates.specs.declared.order.Order.{Order}
 use Rattle.gates.specs.Orders.{number_at}
+use Rattle.gates.specs.Gates.{rows_of}
 use Rattle.gates.specs.Positions.{Ranked}
 
-pub row_ranked : (o : Orders) (i : ℕ) → i < o.count → Ranked o.count (number_at o.rows i)
-row_ranked o i lt = record { within = λ p l. o.within i p (lt, l); once = λ p l. o.once i p (lt, l); every = λ x l. o.every i x (lt, l) }
+rows_ranked : (n : ℕ) (table : List Order) → All (λ (o : Order). o.count ≡ n) table → (i : ℕ) → i < length table → Ranked n (number_at (rows_of table) i)
+rows_ranked n table even i lt =
+    All-get_or (λ r. Ranked n (λ p. get_or r p 0)) (rows_of table) i [] (omega (arith, length-map table (λ (o : Order). o.numbers)))
+    (All-map (λ r. Ranked n (λ p. get_or r p 0)) (λ (o : Order). o.numbers) table
+    (λ k d l. subst (λ c. Ranked c (λ p. get_or (get_or table k d).numbers p 0)) (even k d l) (get_or table k d).whole))
 
-pub van_ranked : (m : Gates) (i : ℕ) → i < m.vans.count → Ranked m.vans.count (number_at m.vans.rows i)
-van_ranked m = row_ranked m.vans
+pub van_ranked : (m : Gates) (i : ℕ) → i < m.count → Ranked m.count (number_at (rows_of m.vans) i)
+van_ranked m i lt = rows_ranked m.count m.vans m.even.0 i (omega (arith, m.few, m.tall.0))
 
-pub gate_ranked : (m : Gates) (g : ℕ) → g < m.vans.count → Ranked m.vans.count (number_at m.gates.rows g)
-gate_ranked m g lt = subst (λ n. Ranked n (number_at m.gates.rows g)) (sym m.even) (row_ranked m.gates g (omega (arith, m.even)))
-
--- two pairs of tables with the same orders are one
-pub same_tables : (m m' : Gates) → m.vans ≡ m'.vans → m.gates ≡ m'.gates → m ≡ m'
-same_tables m m' e f = λ i. record {
-  vans = e i;
-  gates = f i;
-  even = is_prop→PathP (λ j. (e j).count ≡ (f j).count) (λ j. ℕ_set (e j).count (f j).count) m.even m'.even i;
-}
+pub gate_ranked : (m : Gates) (g : ℕ) → g < m.count → Ranked m.count (number_at (rows_of m.gates) g)
+gate_ranked m g lt = rows_ranked m.count m.gates m.even.1 g (omega (arith, m.few, m.tall.1))

@@ -1,14 +1,19 @@
-ghost use Rattle.std.specs.Prelude.{◌≡◌};
+ghost use Rattle.std.specs.Prelude.{◌≡◌, ◌≤◌, length};
+ghost use Rattle.std.specs.List.{All};
+ghost use Rattle.gates.specs.Orders.{most};
 
-use crate::orders::Orders;
+use crate::order::{MOST, Order};
 
 mod calls;
 pub mod condition;
 
-// As many gates as vans, with the orders of both.
+// As many gates as vans, with the order of each.
 #[derive(Clone, Copy)]
 pub struct Gates {
-    vans: Orders,
-    gates: Orders,
-    ghost even: { vans.count ≡ gates.count },
+    count: usize,
+    vans: [Order; MOST],
+    gates: [Order; MOST],
+    ghost few: { count ≤ most },
+    ghost tall: { (length vans ≡ most) × (length gates ≡ most) },
+    ghost even: { All (λ o. o.count ≡ count) vans × All (λ o. o.count ≡ count) gates },
 }

@@ -2,4 +2,5 @@
 
 pub mod fault;
 pub mod gates;
-mod orders;
+mod order;
+pub mod side;

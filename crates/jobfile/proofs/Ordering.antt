@@ -4,23 +4,26 @@ use Rattle.std.specs.List.{flat_map, AllByRecursion}
 use Rattle.std.proofs.lemmas.List.{length_push, get_or_push, get_or_append_left, flat_map_more}
 use Rattle.std.proofs.ByRecursion.{All-push}
 use Rattle.std.proofs.lemmas.Bool.{cases_lt}
+use Rattle.std.proofs.lemmas.Result.{err_from_is_err_and}
+use Rattle.std.specs.Result.{IsErrAnd}
 use Rattle.refusal.specs.declared.Layer.TheVariants.{Record}
 use Rattle.refusal.specs.declared.Refusal.{Refusal}
 use Rattle.gates.specs.declared.fault.OrderFault.{OrderFault}
 use Rattle.gates.specs.declared.gates.Gates.{Gates}
 use Rattle.gates.specs.Orders.{OrderOf, number_at, Unfit, no_row, no_order}
-use Rattle.gates.specs.Gates.{sides, RowPut}
+use Rattle.gates.specs.declared.side.Side.{Side}
+use Rattle.gates.specs.declared.side.Side.TheVariants as side
+use Rattle.gates.specs.Gates.{sides, rows_of, table_of, other_of, RowPut}
 use Rattle.wire.specs.declared.reader.Reader.{Reader}
 use Rattle.wire.specs.Parts.{row, after, next}
 use Rattle.wire.specs.declared.record.RecordFault.{RecordFault}
+use Rattle.wire.specs.declared.record.RecordFault.TheVariants.{Row}
 use Rattle.wire.specs.Records.{RowShort, record_row}
 use Rattle.wire.specs.Records.RowShort.{missing as short}
-use Rattle.jobfile.specs.declared.rows.Side.{Side}
-use Rattle.jobfile.specs.declared.rows.Side.TheVariants as side
 use Rattle.jobfile.specs.Forms.{row_bytes, RowsOk}
 use Rattle.jobfile.specs.Table.{RowBroken, RowsBroken, GatesBroken}
 use Rattle.jobfile.specs.Table.RowBroken.{missing, no_order as disorder}
-use Rattle.jobfile.specs.Fields.{Took, table_of, other_of, Stand, RowRead, RowsRead, GatesRead}
+use Rattle.jobfile.specs.Fields.{Took, Stand, RowRead, RowsRead, GatesRead}
 
 -- the row's bytes are not there
 pub row_short : (total n m : ℕ) (s : List ℕ) (r : Refusal) → m ≡ n → RowShort total m s r → RowBroken n total s r
@@ -35,30 +38,22 @@ module _ (i n : ℕ) (before left : Reader) (g : Gates) (list : List ℕ) (same 
   row_unfit _ place inside at (no_row beyond) = absurd (omega arith)
   row_unfit _ place inside at (no_order _ none) = rw at (disorder list left.rest.now (read.0 ∙ same) read.1 none)
 
-  -- what the table of a side takes, or refuses
-  module _ (h : Gates) (s : Side) (r : Result (Unit {0}) OrderFault) (put : RowPut (table_of s) (other_of s) i list g r h) where
-    pub row_read : r ≡ Ok tt → RowRead s i before left g h
-    row_read e =
-        let good = subst (λ z. RowPut (table_of s) (other_of s) i list g z h) e put in
-        record {
-          list = list;
-          order = good.0.order;
-          took = record { is = read.1; total = read.2 };
-          here = good.0.here;
-          others = good.0.others;
-          count = good.1;
-          other = good.2;
-        }
-
-    pub row_breaks : (e : OrderFault) (place : ℕ) → i < (sides g).n → place ≡ before.total - length before.rest.now → r ≡ Err e →
-        RowBroken (sides g).n before.total before.rest.now (row 10 place Record)
-    row_breaks e place inside at is = row_unfit e place inside at (subst (λ z. RowPut (table_of s) (other_of s) i list g z h) is put).0
-
--- the same, said of a side and of what came of it by other names
-pub put_as : (t : Side) (i : ℕ) (list : List ℕ) (g : Gates) {s : Side} {h m : Gates} {r q : Result (Unit {0}) OrderFault} → s ≡ t → r ≡ q → h ≡ m →
-    RowPut (table_of t) (other_of t) i list g q m → RowPut (table_of s) (other_of s) i list g r h
-put_as t i list g {s} {h} {m} {r} {q} same result gates put =
-    subst (λ z. RowPut (table_of z) (other_of z) i list g r h) (sym same) (subst₂ (λ x y. RowPut (table_of t) (other_of t) i list g x y) (sym result) (sym gates) put)
+  -- what the table of a side takes, or refuses, and what comes of that
+  pub row_ends : (h : Gates) (s : Side) (r : Result (Unit {0}) OrderFault) (q : Result (Unit {0}) RecordFault) (place : ℕ) → RowPut s i list g r h →
+      MatchResult r (λ x. q ≡ Ok x) (λ _. IsErrAnd q (λ e. e ≡ Row place)) → i < (sides g).n → place ≡ before.total - length before.rest.now →
+      MatchResult q (λ _. RowRead s i before left g h) (λ e. RowBroken (sides g).n before.total before.rest.now (record_row e))
+  row_ends h s (Ok _) q place good is inside at = rw is (record {
+    list = list;
+    order = good.0.order;
+    took = record { is = read.1; total = read.2 };
+    here = good.0.here;
+    others = good.0.others;
+    count = good.1;
+    other = good.2;
+  })
+  row_ends h s (Err e) q place bad is inside at =
+      let p = err_from_is_err_and q is in
+      rw (p.1, p.2) (row_unfit e place inside at bad.0)
 
 -- the first i rows of a side were read, and stand in its table
 pub record SomeRows (s : Side) (i : ℕ) (before left : Reader) (g h : Gates) : Type 0 where
@@ -66,7 +61,7 @@ pub record SomeRows (s : Side) (i : ℕ) (before left : Reader) (g h : Gates) : 
   pub many : length rows ≡ i
   pub ok : AllByRecursion (OrderOf (sides g).n) rows
   pub took : Took (flat_map row_bytes rows) before left
-  pub stand : (k p : ℕ) → k < i → p < (sides g).n → number_at (table_of s h).rows k p ≡ number_at rows k p
+  pub stand : (k p : ℕ) → k < i → p < (sides g).n → number_at (rows_of (table_of s h)) k p ≡ number_at rows k p
   pub count : (sides h).n ≡ (sides g).n
   pub other : other_of s h ≡ other_of s g
 
@@ -89,7 +84,7 @@ module _ (s : Side) (i : ℕ) (before left : Reader) (g h : Gates) (so : SomeRow
         so.took.is ∙ ap (λ z. flat_map row_bytes so.rows ++ z) one.took.is ∙ sym (append_assoc (flat_map row_bytes so.rows) one.list end.rest.now)
         ∙ ap (λ z. z ++ end.rest.now) (flat_map_more row_bytes [] so.rows one.list)
 
-    both_stand : (k p : ℕ) → k < i + 1 → p < (sides g).n → number_at (table_of s m).rows k p ≡ number_at (so.rows ++ one.list ∷ []) k p
+    both_stand : (k p : ℕ) → k < i + 1 → p < (sides g).n → number_at (rows_of (table_of s m)) k p ≡ number_at (so.rows ++ one.list ∷ []) k p
     both_stand k p less inside =
         ⊎_elim
         (λ (below : k < i).
@@ -98,7 +93,7 @@ module _ (s : Side) (i : ℕ) (before left : Reader) (g h : Gates) (so : SomeRow
         (λ (above : i ≤ k).
         let last : k ≡ i = omega arith in
         let at : length so.rows ≡ k = omega (arith, so.many) in
-        ap (λ z. number_at (table_of s m).rows z p) last ∙ one.here p (omega (arith, so.count)) ∙ sym (ap (λ z. get_or z p 0) (get_or_push so.rows one.list [] k at)))
+        ap (λ z. number_at (rows_of (table_of s m)) z p) last ∙ one.here p (omega (arith, so.count)) ∙ sym (ap (λ z. get_or z p 0) (get_or_push so.rows one.list [] k at)))
         (cases_lt k i)
 
     pub rows_more : SomeRows s (i + 1) before end g m

@@ -4,9 +4,10 @@ use Rattle.std.specs.List.{flat_map, AllByRecursion}
 use Rattle.refusal.specs.declared.Layer.TheVariants.{Job}
 use Rattle.refusal.specs.declared.Refusal.{Refusal}
 use Rattle.gates.specs.declared.gates.Gates.{Gates}
-use Rattle.gates.specs.declared.orders.Orders.{Orders}
+use Rattle.gates.specs.declared.order.Order.{Order}
+use Rattle.gates.specs.declared.side.Side.{Side}
 use Rattle.gates.specs.Orders.{number_at}
-use Rattle.gates.specs.Gates.{sides}
+use Rattle.gates.specs.Gates.{sides, rows_of, table_of, other_of}
 use Rattle.payload.specs.Marks.{width_of}
 use Rattle.trace.specs.declared.event.Event.{Event}
 use Rattle.trace.specs.Rules.{Valid}
@@ -21,8 +22,6 @@ use Rattle.jobfile.specs.declared.fault.JobFault.{JobFault}
 use Rattle.jobfile.specs.declared.fault.JobFault.TheVariants as fault
 use Rattle.jobfile.specs.declared.fields.Kind.{Kind}
 use Rattle.jobfile.specs.declared.fields.Kind.TheVariants as kinds
-use Rattle.jobfile.specs.declared.rows.Side.{Side}
-use Rattle.jobfile.specs.declared.rows.Side.TheVariants as side
 use Rattle.jobfile.specs.Forms.{channel_bytes, event_bytes, trace_bytes, row_bytes, ChannelOk, EventOk, EventsOk, TraceRules, RowOk, RowsOk}
 
 -- each fault of the job reader as its row: those of the layers below are theirs
@@ -100,28 +99,19 @@ pub record TraceRead (n : ℕ) (before left : Reader) (k : TraceJob) : Type 0 wh
   pub rules : TraceRules n k.watch k.wish (listed k) (happened k)
   pub took : Took (trace_bytes k.watch k.wish (listed k) (happened k)) before left
 
--- the table of one side, and that of the other
-abbrev pub table_of : Side → Gates → Orders
-table_of side.Vans g = g.vans
-table_of side.Gates g = g.gates
-
-abbrev pub other_of : Side → Gates → Orders
-other_of side.Vans g = g.gates
-other_of side.Gates g = g.vans
-
 -- row i of a side
 pub record RowRead (s : Side) (i : ℕ) (before left : Reader) (g h : Gates) : Type 0 where
   pub list : List ℕ
   pub order : RowOk (sides g).n list
   pub took : Took list before left
-  pub here : (p : ℕ) → p < (sides g).n → number_at (table_of s h).rows i p ≡ slice_index list p
-  pub others : (k p : ℕ) → (k ≢ i) → number_at (table_of s h).rows k p ≡ number_at (table_of s g).rows k p
+  pub here : (p : ℕ) → p < (sides g).n → number_at (rows_of (table_of s h)) i p ≡ slice_index list p
+  pub others : (k p : ℕ) → (k ≢ i) → number_at (rows_of (table_of s h)) k p ≡ number_at (rows_of (table_of s g)) k p
   pub count : (sides h).n ≡ (sides g).n
   pub other : other_of s h ≡ other_of s g
 
 -- the rows stand in a table
-abbrev pub Stand : ℕ → List (List ℕ) → Orders → Type 0
-Stand n rows table = (i p : ℕ) → i < n → p < n → number_at table.rows i p ≡ number_at rows i p
+abbrev pub Stand : ℕ → List (List ℕ) → List Order → Type 0
+Stand n list table = (i p : ℕ) → i < n → p < n → number_at (rows_of table) i p ≡ number_at list i p
 
 -- all rows of a side
 pub record RowsRead (s : Side) (before left : Reader) (g h : Gates) : Type 0 where

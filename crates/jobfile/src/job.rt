@@ -16,5 +16,5 @@ pub struct Job {
     gates: Gates,
     ghost lettered: { is_job_letter letter ≡ true },
     ghost no_trace: { (letter ≢ 84) → trace.trace.n ≡ 0 },
-    ghost no_gates: { (letter ≢ 77) → gates.vans.count ≡ 0 },
+    ghost no_gates: { (letter ≢ 77) → gates.count ≡ 0 },
 }

@@ -5,16 +5,10 @@ ghost use Rattle.jobfile.specs.Table.{RowBroken, RowsBroken, GatesBroken};
 ghost use Rattle.jobfile.specs.Fields.{RowRead, RowsRead, GatesRead};
 
 use gates::gates::Gates;
+use gates::side::Side;
 use wire::reader::Reader;
 use wire::record;
 use wire::record::RecordFault;
-
-// Whose orders are read.
-#[derive(Clone, Copy)]
-pub(crate) enum Side {
-    Vans,
-    Gates,
-}
 
 // One row. The gates themselves know whether it is an order.
 fn row(reader: &mut Reader<'_>, gates: &mut Gates, side: Side, i: usize) -> Result<(), RecordFault>
@@ -23,14 +17,9 @@ fn row(reader: &mut Reader<'_>, gates: &mut Gates, side: Side, i: usize) -> Resu
 {
     let start = reader.position();
     let order = record::row(reader, gates.count() as u8)?;
-    let put = match side {
-        Side::Vans => gates.put_van(i, order),
-        Side::Gates => gates.put_gate(i, order),
-    };
-    match put {
-        Ok(()) => Ok(()),
-        Err(_) => Err(RecordFault::Row(start)),
-    }
+    gates
+        .put(side, i, order)
+        .map_err(|_| RecordFault::Row(start))
 }
 
 fn rows(reader: &mut Reader<'_>, gates: &mut Gates, side: Side) -> Result<(), RecordFault>

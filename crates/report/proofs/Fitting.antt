@@ -7,5 +7,5 @@ use Rattle.jobfile.specs.Jobs.{places_of}
 pub places_few : (j : Job) → places_of j ≤ 16
 places_few j =
     let t = j.trace.trace.few in
-    let g = j.gates.vans.few in
+    let g = j.gates.few in
     grind (arith, nat_tests)

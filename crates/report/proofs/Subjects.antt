@@ -62,16 +62,16 @@ module _ {letter : ℕ} {t : TraceJob} {n watch : ℕ} {wish : Wish} {channels :
 
 -- and a gates part
 module _ {letter : ℕ} {g : Gates} {n : ℕ} {vans rows : List (List ℕ)} (held : HeldGates letter g n vans rows) (h : ℕ → ℕ) where
-  counted : Stable (sides g) h ≡ Stable (record { n = n; van = number_at g.vans.rows; gate = number_at g.gates.rows }) h
-  counted = λ i. Stable (record { n = held.count i; van = number_at g.vans.rows; gate = number_at g.gates.rows }) h
+  counted : Stable (sides g) h ≡ Stable (record { n = n; van = (sides g).van; gate = (sides g).gate }) h
+  counted = λ i. Stable (record { n = held.count i; van = (sides g).van; gate = (sides g).gate }) h
 
   gates_solve : Stable (sides g) h → Stable (record { n = n; van = number_at vans; gate = number_at rows }) h
-  gates_solve stable = stable_too n (number_at g.vans.rows) (number_at vans) (number_at g.gates.rows) (number_at rows) held.of_vans held.of_gates h (transport counted stable)
+  gates_solve stable = stable_too n (sides g).van (number_at vans) (sides g).gate (number_at rows) held.of_vans held.of_gates h (transport counted stable)
 
   gates_hold : Stable (record { n = n; van = number_at vans; gate = number_at rows }) h → Stable (sides g) h
   gates_hold stable =
       transport (sym counted)
-      (stable_too n (number_at vans) (number_at g.vans.rows) (number_at rows) (number_at g.gates.rows)
+      (stable_too n (number_at vans) (sides g).van (number_at rows) (sides g).gate
       (λ i p li lp. sym (held.of_vans i p li lp)) (λ i p li lp. sym (held.of_gates i p li lp)) h stable)
 
 pub holds_solves : (j : Job) (form : Form) → Held j form → (v : Vector) → JobHolds j v → Solves form v

@@ -1,5 +1,6 @@
 use gates::fault::OrderFault;
 use gates::gates::Gates;
+use gates::side::Side;
 use lattice::board::Board;
 use lattice::call::Call;
 use lattice::condition::{Condition, Reply};
@@ -15,27 +16,23 @@ use std::test::Fail;
 // Two vans with these orders; gate 0 likes van 1 best, gate 1 van 0.
 fn depot(first: &[u8], second: &[u8]) -> Result<Gates, OrderFault> {
     let mut gates = Gates::new(2).ok_or(OrderFault::Row)?;
-    gates.put_van(0, first)?;
-    gates.put_van(1, second)?;
-    gates.put_gate(0, &[1, 0])?;
-    gates.put_gate(1, &[0, 1])?;
+    gates.put(Side::Vans, 0, first)?;
+    gates.put(Side::Vans, 1, second)?;
+    gates.put(Side::Gates, 0, &[1, 0])?;
+    gates.put(Side::Gates, 1, &[0, 1])?;
     Ok(gates)
 }
 
 fn shows(board: &Board, verdict: Verdict, count: u32, first: u32, second: u32) -> bool {
     let reading = board.read();
-    let heights = reading.vector.heights();
     reading.verdict == verdict
         && reading.count == count
-        && heights[0] == first
-        && heights[1] == second
+        && reading.vector.heights().starts_with(&[first, second])
 }
 
 #[test]
 fn both_like_gate_0(rt: HostRuntime) -> Result<(), Fail> {
-    let Ok(gates) = depot(&[0, 1], &[0, 1]) else {
-        return Err(Fail::new("refused"));
-    };
+    let gates = depot(&[0, 1], &[0, 1])?;
     let mut board = Board::new();
     assert!(rt; board.run(&gates, 0) == Answer::Pending);
     assert!(rt; shows(&board, Verdict::Open, 0, 0, 0));
@@ -50,9 +47,7 @@ fn both_like_gate_0(rt: HostRuntime) -> Result<(), Fail> {
 
 #[test]
 fn each_likes_another(rt: HostRuntime) -> Result<(), Fail> {
-    let Ok(gates) = depot(&[0, 1], &[1, 0]) else {
-        return Err(Fail::new("refused"));
-    };
+    let gates = depot(&[0, 1], &[1, 0])?;
     let calls = [
         Call::Run(9),
         Call::Read,
@@ -101,14 +96,12 @@ fn refusals_change_nothing(rt: HostRuntime) {
 #[test]
 fn orders_are_whole_or_refused(rt: HostRuntime) -> Result<(), Fail> {
     assert!(rt; Gates::new(17).is_none());
-    let Some(mut gates) = Gates::new(3) else {
-        return Err(Fail::new("refused"));
-    };
-    assert!(rt; gates.put_van(1, &[2, 0, 1]).is_ok());
-    assert!(rt; gates.put_van(1, &[2, 0, 2]) == Err(OrderFault::Order));
-    assert!(rt; gates.put_van(1, &[2, 0, 3]) == Err(OrderFault::Order));
-    assert!(rt; gates.put_van(1, &[2, 0]) == Err(OrderFault::Order));
-    assert!(rt; gates.put_gate(3, &[2, 0, 1]) == Err(OrderFault::Row));
+    let mut gates = Gates::new(3).ok_or("refused")?;
+    assert!(rt; gates.put(Side::Vans, 1, &[2, 0, 1]).is_ok());
+    for order in [&[2, 0, 2][..], &[2, 0, 3], &[2, 0]] {
+        assert!(rt; gates.put(Side::Vans, 1, order) == Err(OrderFault::Order));
+    }
+    assert!(rt; gates.put(Side::Gates, 3, &[2, 0, 1]) == Err(OrderFault::Row));
     assert!(rt;
         gates.gate_at(1, 0) == Some(2)
             && gates.gate_at(1, 3).is_none()
@@ -127,45 +120,34 @@ fn at(first: u32, second: u32) -> Result<Vector, Refusal> {
 
 #[test]
 fn a_rival_that_passed_still_counts(rt: HostRuntime) -> Result<(), Fail> {
-    let Ok(gates) = depot(&[0, 1], &[0, 1]) else {
-        return Err(Fail::new("refused"));
-    };
-    let Ok(passed) = at(0, 1) else {
-        return Err(Fail::new("too high"));
-    };
-    let Ok(past) = at(2, 1) else {
-        return Err(Fail::new("too high"));
-    };
+    let gates = depot(&[0, 1], &[0, 1])?;
+    let passed = at(0, 1).ok().ok_or("too high")?;
+    let past = at(2, 1).ok().ok_or("too high")?;
     assert!(rt; gates.probe(&passed) == Reply::Lift((0, 1)));
     assert!(rt; gates.probe(&past) == Reply::Never);
     Ok(())
 }
 
+fn lent<'a>(lender: &'a Gates) -> Lent<&'a Gates, Gates> {
+    Lent {
+        lender,
+        of: PhantomData,
+    }
+}
+
 // The reply of the pair of two conditions that are lent.
 fn probe_both<'a>(first: &'a Gates, second: &'a Gates, v: &Vector) -> Reply {
-    let first = Lent {
-        lender: first,
-        of: PhantomData,
-    };
-    let second = Lent {
-        lender: second,
-        of: PhantomData,
-    };
+    let first = lent(first);
+    let second = lent(second);
     let pair = Pair { first, second };
     pair.probe(v)
 }
 
 #[test]
 fn pairs_and_lent_conditions(rt: HostRuntime) -> Result<(), Fail> {
-    let Ok(gates) = depot(&[0, 1], &[0, 1]) else {
-        return Err(Fail::new("refused"));
-    };
-    let Some(blank) = Gates::new(0) else {
-        return Err(Fail::new("refused"));
-    };
-    let Ok(start) = at(0, 0) else {
-        return Err(Fail::new("too high"));
-    };
+    let gates = depot(&[0, 1], &[0, 1])?;
+    let blank = Gates::new(0).ok_or("refused")?;
+    let start = at(0, 0).ok().ok_or("too high")?;
     assert!(rt; probe_both(&blank, &blank, &start) == Reply::Holds);
     assert!(rt; probe_both(&blank, &gates, &start) == Reply::Lift((0, 1)));
     assert!(rt; probe_both(&gates, &blank, &start) == Reply::Lift((0, 1)));
@@ -173,19 +155,12 @@ fn pairs_and_lent_conditions(rt: HostRuntime) -> Result<(), Fail> {
 }
 
 #[test]
-fn a_vector_is_within_bounds(rt: HostRuntime) -> Result<(), Fail> {
+fn a_vector_is_within_bounds(rt: HostRuntime) {
     assert!(rt; at(0, 1_000_000).is_ok());
-    match at(0, 1_000_001) {
-        Err(e) => {
-            assert!(rt;
-                e == Refusal {
-                    number: 14,
-                    position: 1,
-                    layer: Layer::Board,
-                }
-            );
-            Ok(())
-        },
-        Ok(_) => Err(Fail::new("taken")),
-    }
+    let too_high = Refusal {
+        number: 14,
+        position: 1,
+        layer: Layer::Board,
+    };
+    assert!(rt; at(0, 1_000_001).err() == Some(too_high));
 }

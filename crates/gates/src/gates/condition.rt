@@ -1,10 +1,10 @@
-ghost use Rattle.std.specs.Prelude.{◌≡◌, ◌<◌};
+ghost use Rattle.std.specs.Prelude.{◌≡◌, ◌<◌, ◌↔◌, IsTrue};
 ghost use Rattle.lattice.specs.First.{Least};
 ghost use Rattle.lattice.specs.Order.{at};
 ghost use Rattle.gates.specs.Gates.{sides};
 ghost use Rattle.gates.specs.Reply.{rival as is_rival, free, reply_to};
 ghost use Rattle.gates.specs.Rivals.{Says};
-ghost use Rattle.gates.specs.Stable.{Stable};
+ghost use Rattle.gates.specs.Stable.{Placed, Stable};
 ghost use Rattle.gates.specs.Lawfulness;
 
 use crate::gates::Gates;
@@ -12,31 +12,39 @@ use lattice::condition::{Condition, Reply};
 use lattice::vector::Vector;
 
 impl Gates {
+    // Whether every van has a gate.
+    fn placed(&self, v: &Vector) -> bool
+        ensures { IsTrue result ↔ Placed (sides self.now) (at v.now) }
+    {
+        let n = self.count;
+        v.heights()[..n].iter().all(|&height| (height as usize) < n)
+    }
+
     // Whether van j is a rival of van i at the gate g: one that has passed the gate still counts.
     fn rival(&self, v: &Vector, i: usize, g: usize, j: usize) -> bool
-        requires { (i < self.now.vans.count) × ((g < self.now.vans.count) × (j < self.now.vans.count)) }
+        requires { (i < self.now.count) × ((g < self.now.count) × (j < self.now.count)) }
         ensures { result ≡ is_rival (sides self.now) (at v.now) i g j }
     {
-        self.gates.rank(g, j) < self.gates.rank(g, i)
-            && self.vans.rank(j, g) <= v.heights()[j] as usize
+        let gate = &self.gates[g];
+        gate.rank(j) < gate.rank(i) && self.vans[j].rank(g) <= v.heights()[j] as usize
     }
 
     // The first position of van i, from its present one on, where no van is its rival, or the number of gates.
     fn free_position(&self, v: &Vector, i: usize) -> usize
-        requires { (i < self.now.vans.count) × (at v.now i < self.now.vans.count) }
-        ensures { Least (free (sides self.now) (at v.now) i) (at v.now i) self.now.vans.count result }
+        requires { (i < self.now.count) × (at v.now i < self.now.count) }
+        ensures { Least (free (sides self.now) (at v.now) i) (at v.now i) self.now.count result }
     {
-        let n = self.vans.count();
-        'next: for p in v.heights()[i] as usize..n {
-            let gate = self.vans.liked(i, p);
-            for j in 0..n {
-                if self.rival(v, i, gate, j) {
+        let present = v.heights()[i] as usize;
+        // Over the positions and, for each, over the vans: the first rival leaves for the next position.
+        'next: for (past, &gate) in self.vans[i].numbers()[present..].iter().enumerate() {
+            for j in 0..self.count {
+                if self.rival(v, i, gate as usize, j) {
                     continue 'next;
                 }
             }
-            return p;
+            return present + past;
         }
-        n
+        self.count
     }
 }
 
@@ -51,16 +59,12 @@ impl Condition for Gates {
         ensures is { result ≡ reply_to (sides self.now) (at v.now) }
         ensures says { Says (sides self.now) (at v.now) result }
     {
-        let n = self.vans.count();
-        for place in 0..n {
-            if v.heights()[place] as usize >= n {
-                return Reply::Never;
-            }
+        if !self.placed(v) {
+            return Reply::Never;
         }
-        for i in 0..n {
-            let present = v.heights()[i] as usize;
+        for (i, &present) in v.heights()[..self.count].iter().enumerate() {
             let free = self.free_position(v, i);
-            if free > present {
+            if free > present as usize {
                 return Reply::Lift((i, free as u32));
             }
         }

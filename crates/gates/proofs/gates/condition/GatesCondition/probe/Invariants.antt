@@ -1,13 +1,8 @@
--- What the walks over the vans keep. Assumes nothing.
-use Rattle.std.proofs.Common.{ℕ, ◌<◌}
+-- What the walk over the vans keep. Assumes nothing.
 use Rattle.lattice.specs.Order.{at}
 use Rattle.gates.specs.Gates.{sides}
 use Rattle.gates.specs.Replies.{QuietBelow}
 use Rattle.gates.proofs.gates.condition.GatesCondition.probe.Given as goal
-
--- each van so far has a gate
-abbrev pub invariant-loop-place : goal.invariant-loop-place
-invariant-loop-place l = (k : ℕ) → k < l.place → at l.v k < l.n
 
 -- no van so far has a rival at its gate
 abbrev pub invariant-loop-i : goal.invariant-loop-i
