@@ -51,15 +51,14 @@ impl Payload for Code {
     }
 
     fn wish(part: &[u8]) -> Option<u8> {
-        if part.len() == Self::WIDTH {
-            Some(part[0])
-        } else {
-            None
+        match *part {
+            [code] => Some(code),
+            _ => None,
         }
     }
 
     fn meets(wish: &u8, part: &[u8]) -> bool {
-        part.len() == Self::WIDTH && part[0] == *wish
+        Self::wish(part).is_some_and(|code| code == *wish)
     }
 }
 
@@ -68,14 +67,6 @@ impl Payload for Code {
 pub struct ScanWish {
     pub stop: u16,
     pub parcels: u16,
-}
-
-// The number in two bytes, the greater first.
-fn pair_at(part: &[u8], i: usize) -> u16
-    requires { i + 1 < length part.now }
-    ensures { result ≡ pair_at part.now i }
-{
-    (part[i] as u16) * 256 + part[i + 1] as u16
 }
 
 pub struct Scan;
@@ -98,19 +89,18 @@ impl Payload for Scan {
     }
 
     fn wish(part: &[u8]) -> Option<ScanWish> {
-        if part.len() == Self::WIDTH {
-            Some(ScanWish {
-                stop: pair_at(part, 0),
-                parcels: pair_at(part, 2),
-            })
-        } else {
-            None
+        match *part {
+            [a, b, c, d] => Some(ScanWish {
+                stop: u16::from_be_bytes([a, b]),
+                parcels: u16::from_be_bytes([c, d]),
+            }),
+            _ => None,
         }
     }
 
     fn meets(wish: &ScanWish, part: &[u8]) -> bool {
-        part.len() == Self::WIDTH
-            && pair_at(part, 0) == wish.stop
-            && pair_at(part, 2) <= wish.parcels
+        Self::wish(part).is_some_and(|scan| {
+            scan.stop == wish.stop && scan.parcels <= wish.parcels
+        })
     }
 }

@@ -11,7 +11,7 @@ pub const WIDEST: usize = 4;
 pub fn mark<P: Payload>(wish: &P::Wish, bytes: &[u8; WIDEST]) -> bool
     ensures { result ≡ P.wanted wish.now (take P.wide bytes.now) }
 {
-    P::meets(wish, &bytes[0..P::size()])
+    P::meets(wish, &bytes[..P::size()])
 }
 
 impl Wish {
@@ -19,9 +19,9 @@ impl Wish {
     pub fn marks(&self, bytes: &[u8; WIDEST]) -> bool
         ensures { result ≡ wanted_by self.now bytes.now }
     {
-        match *self {
-            Wish::Code(wish) => mark::<Code>(&wish, bytes),
-            Wish::Scan(wish) => mark::<Scan>(&wish, bytes),
+        match self {
+            Wish::Code(wish) => mark::<Code>(wish, bytes),
+            Wish::Scan(wish) => mark::<Scan>(wish, bytes),
         }
     }
 
@@ -29,7 +29,7 @@ impl Wish {
     pub fn width(&self) -> usize
         ensures { result ≡ width_of self.now }
     {
-        match *self {
+        match self {
             Wish::Code(_) => Code::size(),
             Wish::Scan(_) => Scan::size(),
         }

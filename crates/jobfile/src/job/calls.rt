@@ -61,19 +61,19 @@ impl Job {
         &self.gates
     }
 
-    pub fn consistent(&self) -> Consistent<&TraceJob>
+    pub fn consistent(&self) -> Consistent<'_>
         ensures { result.job.now ≡ self.now.trace }
     {
         Consistent { job: &self.trace }
     }
 
-    pub fn watched(&self) -> Watched<&TraceJob>
+    pub fn watched(&self) -> Watched<'_>
         ensures { result.job.now ≡ self.now.trace }
     {
         Watched { job: &self.trace }
     }
 
-    pub fn channels(&self) -> Channels<&TraceJob>
+    pub fn channels(&self) -> Channels<'_>
         ensures { result.job.now ≡ self.now.trace }
     {
         Channels { job: &self.trace }
@@ -93,7 +93,7 @@ impl Job {
     pub fn condition(
         &self,
     ) -> Pair<
-        Pair<Consistent<&TraceJob>, Pair<Watched<&TraceJob>, Channels<&TraceJob>>>,
+        Pair<Consistent<'_>, Pair<Watched<'_>, Channels<'_>>>,
         Lent<&Gates, Gates>,
     >
         ensures first { result.first.first.job.now ≡ self.now.trace }
