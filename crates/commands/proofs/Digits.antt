@@ -1,50 +1,44 @@
--- The number that the digits of a word write, digit by digit. Assumes nothing.
-use Rattle.std.proofs.Common.{◌≡◌, ℕ, ◌+◌, ◌-◌, ◌*◌, ◌<◌, ◌≤◌, true, false, ◌&&◌, ◌⊎◌, List, [], ◌∷◌, length, get_or, drop, sym, refl, ap, ◌∙◌, ⊎_elim, arith}
-use Rattle.std.proofs.lemmas.List.{at_drop_more, at_drop_all}
-use Rattle.std.proofs.lemmas.Bool.{le-leb, lt-leb, and_left, and_right, and_from, both_ways}
+-- What std reads in a word of digits alone. Assumes nothing.
+use Rattle.std.proofs.Common.{◌≡◌, ℕ, suc, ◌^◌, true, ◌&&◌, Some, None, Result, Ok, Err, List, [], ◌∷◌, MatchOption, MatchResult, Bor, refl, ap, ◌∙◌, sym, arith, rules}
+use Rattle.std.specs.List.{list_all}
+use Rattle.std.specs.Result.{result_ok}
+use Rattle.std.specs.Str.{IsUtf8}
+use Rattle.std.specs.Str.Parse.{ParsesUnsigned}
+use Rattle.std.proofs.lemmas.Str.{IsUtf8-from_ascii}
+use Rattle.std.proofs.lemmas.Str.Parse.{IsNumeralModel, numerals_by_fold, parse_digits}
+use Rattle.std.proofs.lemmas.Fmt.{IsAscii-from_digits}
 use Rattle.commands.specs.Words.{is_digit, all_digits, value_on, Writes}
 
--- digits only add
-value_least : (s : List ℕ) (v : ℕ) → v ≤ value_on v s
-value_least [] v = omega arith
-value_least (b ∷ s) v = omega (arith, value_least s (v * 10 + (b - 48)))
+own : IsNumeralModel (λ ds. all_digits ds ≡ true) (value_on 0)
+own = numerals_by_fold _ (search rules) value_on (search rules)
 
-in_digits : (b : ℕ) → 48 ≤ b → b ≤ 57 → is_digit b ≡ true
-in_digits b low high = and_from _ _ (le-leb 48 b low) (le-leb b 57 high)
+pub each_digit : (word : List ℕ) → list_all is_digit word ≡ all_digits word
+each_digit [] = refl
+each_digit (b ∷ word) = ap (λ t. is_digit b && t) (each_digit word)
 
--- i digits write the value, which is not too great, and the others go on from there
-pub record Sofar (word : List ℕ) (most i value : ℕ) : Type 0 where
-  pub onward : value_on value (drop i word) ≡ value_on 0 word
-  pub digits : all_digits (drop i word) ≡ all_digits word
-  pub small : value ≤ most
+text : (word : List ℕ) → all_digits word ≡ true → IsUtf8 word
+text word digits = IsUtf8-from_ascii word (IsAscii-from_digits word (own.to word digits))
 
-pub start : (word : List ℕ) (most : ℕ) → Sofar word most 0 0
-start word most = record { onward = refl; digits = refl; small = omega arith }
+-- the text that `from_utf8` found, and what it parses as
+module _ (word : List ℕ) {E : Type 0} (P : E → Type 0) where
+  pub same_text : (r : Result (Bor (List ℕ)) E) (x : Bor (List ℕ)) → MatchResult r (λ s. (s.now ≡ word) × IsUtf8 word) (λ e. ¬ (IsUtf8 word) × P e) → result_ok r ≡ Some x → x.now ≡ word
+  same_text (Ok s) x found is = let e : s ≡ x = cc is in ap (λ t. t.now) (sym e) ∙ found.0
+  same_text (Err e) x found is = absurd (cc is)
 
-module _ {word : List ℕ} {most i value : ℕ} (so : Sofar word most i value) where
-  module _ (inside : i < length word) where
-    pub one_more : 48 ≤ get_or word i 0 → get_or word i 0 ≤ 57 → value * 10 + (get_or word i 0 - 48) ≤ most → Sofar word most (i + 1) (value * 10 + (get_or word i 0 - 48))
-    one_more low high fits = record {
-      onward = sym (at_drop_more (value_on value) word i 0 inside) ∙ so.onward;
-      digits = ap (λ b. b && all_digits (drop (i + 1) word)) (sym (in_digits _ low high)) ∙ sym (at_drop_more all_digits word i 0 inside) ∙ so.digits;
-      small = fits;
-    }
+  pub no_text : (r : Result (Bor (List ℕ)) E) → MatchResult r (λ s. (s.now ≡ word) × IsUtf8 word) (λ e. ¬ (IsUtf8 word) × P e) → result_ok r ≡ None → all_digits word ≡ true → ⊥
+  no_text (Ok s) found is digits = absurd (cc is)
+  no_text (Err e) found is digits = found.0 (text word digits)
 
-    pub no_digit : (is_digit (get_or word i 0) ≡ false) → (v : ℕ) → Writes word most v → ⊥
-    no_digit other v w = both_ways _ (sym so.digits ∙ at_drop_more all_digits word i 0 inside ∙ and_left _ _ other) w.digits
+pub read : {T E : Type 0} (word : List ℕ) (gives : Result T E → Type 0) (r : Result T E) → gives r → all_digits word ≡ true → MatchOption (result_ok r) (all_digits word ≡ true → (e : E) × gives (Err e)) (λ v. (all_digits word ≡ true) × gives (Ok v))
+read word gives (Ok v) g digits = (digits, g)
+read word gives (Err e) g digits = λ _. (e, g)
 
-    pub too_great : most < value * 10 + (get_or word i 0 - 48) → (v : ℕ) → Writes word most v → ⊥
-    too_great great v w =
-        let all : value_on (value * 10 + (get_or word i 0 - 48)) (drop (i + 1) word) ≡ value_on 0 word = sym (at_drop_more (value_on value) word i 0 inside) ∙ so.onward in
-        omega (arith, value_least (drop (i + 1) word) (value * 10 + (get_or word i 0 - 48)), w.value, w.small)
+-- in numbers of k bits; what stands in an error does not matter
+module _ (k most : ℕ) (range : 2 ^ k ≡ suc most) (word : List ℕ) where
+  pub writes : (v : ℕ) → all_digits word ≡ true → ParsesUnsigned {E = Unit {0}} k 10 word (Ok v) → Writes word most v
+  writes v digits given =
+      let ((some, small), is) = parse_digits own {E = Unit {0}} k word (Ok v) given digits in
+      record { some = some; digits = digits; value = is; small = omega (arith, small, is, range) }
 
-  pub all_read : 0 < length word → length word ≤ i → Writes word most value
-  all_read some done = record {
-    some = some;
-    digits = sym so.digits ∙ at_drop_all all_digits word i done;
-    value = sym (at_drop_all (value_on value) word i done) ∙ so.onward;
-    small = so.small;
-  }
-
-pub other_byte : (b : ℕ) → (b < 48) ⊎ ((48 ≤ b) × (57 < b)) → is_digit b ≡ false
-other_byte b h = ⊎_elim (λ l. and_left _ _ (lt-leb 48 b l)) (λ l. and_right _ _ (lt-leb b 57 l.1)) h
+  pub writes_none : (all_digits word ≡ true → ParsesUnsigned {E = Unit {0}} k 10 word (Err tt)) → (v : ℕ) → Writes word most v → ⊥
+  writes_none none v w = parse_digits own {E = Unit {0}} k word (Err tt) (none w.digits) w.digits (w.some, omega (arith, w.small, w.value, range))

@@ -1,12 +1,11 @@
 -- The heights of a probe, word by word. Assumes nothing.
-use Rattle.std.proofs.Common.{◌≡◌, ℕ, zero, suc, ◌+◌, ◌-◌, ◌<◌, ◌≤◌, List, [], ◌∷◌, ◌++◌, length, take, set, replicate, sym, refl, ap, ◌∙◌, subst, append_assoc, append-nil, arith, length-append}
-use Rattle.std.proofs.lemmas.List.{set_at, take-replicate, length_push, nil_from_length}
+use Rattle.std.proofs.Common.{◌≡◌, ℕ, zero, suc, ◌+◌, ◌-◌, ◌<◌, ◌≤◌, List, [], ◌∷◌, ◌++◌, length, take, set, replicate, sym, refl, ap, ◌∙◌, subst, inl, inr, ◌⊎◌, ⊎_elim, append_assoc, arith}
+use Rattle.std.proofs.lemmas.List.{set_at, take-replicate, length_push}
 use Rattle.commands.specs.Words.{Writes}
 use Rattle.commands.specs.Commands.{most32, EachWrites, none, more}
-use Rattle.commands.specs.declared.command.Asked.{Asked}
-use Rattle.commands.specs.Behind.{Heights, Asks}
+use Rattle.commands.specs.Behind.{Heights, NoHeights}
 
-each_length : {ws : List (List ℕ)} {hs : List ℕ} → EachWrites ws hs → length ws ≡ length hs
+pub each_length : {ws : List (List ℕ)} {hs : List ℕ} → EachWrites ws hs → length ws ≡ length hs
 each_length none = refl
 each_length (more word h ws hs w e) = ap suc (each_length e)
 
@@ -54,25 +53,18 @@ module _ {all left : List (List ℕ)} {i : ℕ} {heights : List ℕ} (so : Sofar
           ∙ sym (append_assoc so.written (h ∷ []) (replicate (32 - (i + 1)) 0));
     }
 
-    pub no_height : ((v : ℕ) → Writes word most32 v → ⊥) → (hs : List ℕ) → Heights all hs → ⊥
-    no_height bad hs have =
-        let (h, w) = each_at so.read word after (subst (λ l. EachWrites l have.written) (sym so.split ∙ ap (λ l. so.read ++ l) are) have.each) in
+    pub no_height : ((v : ℕ) → Writes word most32 v → ⊥) → NoHeights all
+    no_height bad hs each few =
+        let (h, w) = each_at so.read word after (subst (λ l. EachWrites l hs) (sym so.split ∙ ap (λ l. so.read ++ l) are) each) in
         bad h w
 
-  pub all_read : i ≤ 32 → left ≡ [] → Heights all heights
+  pub all_read : i ≤ 32 → (i ≡ 32) ⊎ (left ≡ []) → Heights all heights left
   all_read inside end = record {
+    read = so.read;
     written = so.written;
-    each = subst (λ l. EachWrites l so.written) (sym (append-nil so.read) ∙ ap (λ l. so.read ++ l) (sym end) ∙ so.split) so.each;
+    split = sym so.split;
+    each = so.each;
     few = omega (arith, so.many);
+    full = ⊎_elim (λ e. inl (so.many ∙ e)) inr end;
     padded = so.filled ∙ ap (λ n. so.written ++ replicate (32 - n) 0) (sym so.many) ∙ padding 32 32 so.written (omega (arith, so.many)) (omega arith);
   }
-
-  pub too_many : 32 ≤ i → (left ≡ [] → ⊥) → (hs : List ℕ) → Heights all hs → ⊥
-  too_many full some hs have =
-      let parts = length-append so.read left in
-      some (nil_from_length left (omega (arith, parts, ap length so.split, each_length so.each, so.many, each_length have.each, have.few)))
-
-pub not_asked : {ws after : List (List ℕ)} {word : List ℕ} → ws ≡ word ∷ after → ((hs : List ℕ) → Heights after hs → ⊥) → (c : Asked) (hs : List ℕ) → Asks ws c hs → ⊥
-not_asked {ws} {after} are bad c hs asks =
-    let same : asks.further ≡ after = cc asks.are in
-    bad hs (subst (λ l. Heights l hs) same asks.at)

@@ -1,27 +1,51 @@
 -- What a line says by its first word, and what it cannot say. Assumes nothing.
-use Rattle.std.proofs.Common.{◌≡◌, ℕ, cond, List, [], ◌∷◌, codes, sym, refl, ap, ◌∙◌, subst₂, inl, inr, ⊎_elim, arith, Bor}
+use Rattle.std.proofs.Common.{◌≡◌, ◌≢◌, ℕ, ◌≤◌, cond, List, [], ◌∷◌, codes, sym, refl, ap, ◌∙◌, subst, subst₂, inl, inr, ◌⊎◌, ⊎_elim, Bor, Option, Some, None, MatchOption, length, append-nil, arith, length-append}
 use Rattle.std.specs.Str.{bytes_eq}
+use Rattle.std.specs.Option.{unwrap_or}
+use Rattle.std.proofs.lemmas.List.{nil_from_length}
 use Rattle.commands.specs.declared.command.Asked.{Asked}
 use Rattle.commands.specs.declared.command.Command.{Command}
 use Rattle.commands.specs.declared.command.Command.TheVariants as command
-use Rattle.commands.specs.declared.parse.Name.{Name}
-use Rattle.commands.specs.declared.parse.Name.TheVariants.{Job, New, Floor, Ceiling, Run, Read, Probe, Clocks, Report}
-use Rattle.commands.specs.Words.{words}
+use Rattle.commands.specs.Words.{words, Writes}
 use Rattle.commands.specs.Commands as says
-use Rattle.commands.specs.Commands.{Says, most32, most64}
-use Rattle.commands.specs.Behind.{name_word, Bytes, One, Two, Asks}
+use Rattle.commands.specs.Commands.{Says, EachWrites, asked_word, most32, most64}
+use Rattle.commands.specs.Behind.{SayNone, Begin, Heights}
+use Rattle.commands.proofs.Heights.{each_length}
+
+-- the names of the commands
+pub data Name : Type 0 where
+  Job : Name
+  New : Name
+  Floor : Name
+  Ceiling : Name
+  Run : Name
+  Read : Name
+  Probe : Name
+  Clocks : Name
+  Report : Name
+
+abbrev pub name_word : Name → List ℕ
+name_word Job = codes "job"
+name_word New = codes "new"
+name_word Floor = codes "floor"
+name_word Ceiling = codes "ceiling"
+name_word Run = codes "run"
+name_word Read = codes "read"
+name_word Probe = codes "probe"
+name_word Clocks = codes "clocks"
+name_word Report = codes "report"
 
 -- the words do not fit behind the name
 abbrev pub Cannot : Name → List (List ℕ) → Type 0
-Cannot Job ws = (word : List ℕ) → Bytes ws word → ⊥
+Cannot Job ws = (ws ≡ [] → ⊥) × ((a : List ℕ) → ws ≡ a ∷ [] → ⊥)
 Cannot New ws = ws ≡ [] → ⊥
-Cannot Floor ws = (p h : ℕ) → Two ws p h → ⊥
-Cannot Ceiling ws = (p h : ℕ) → Two ws p h → ⊥
-Cannot Run ws = (v : ℕ) → One ws most32 v → ⊥
+Cannot Floor ws = (a b : List ℕ) (p h : ℕ) → ws ≡ a ∷ b ∷ [] → Writes a most64 p → Writes b most32 h → ⊥
+Cannot Ceiling ws = (a b : List ℕ) (p h : ℕ) → ws ≡ a ∷ b ∷ [] → Writes a most64 p → Writes b most32 h → ⊥
+Cannot Run ws = (a : List ℕ) (v : ℕ) → ws ≡ a ∷ [] → Writes a most32 v → ⊥
 Cannot Read ws = ws ≡ [] → ⊥
-Cannot Probe ws = (c : Asked) (hs : List ℕ) → Asks ws c hs → ⊥
+Cannot Probe ws = (c : Asked) (further : List (List ℕ)) (hs : List ℕ) → ws ≡ asked_word c ∷ further → EachWrites further hs → length hs ≤ 32 → ⊥
 Cannot Clocks ws = ws ≡ [] → ⊥
-Cannot Report ws = (v : ℕ) → One ws most64 v → ⊥
+Cannot Report ws = (a : List ℕ) (v : ℕ) → ws ≡ a ∷ [] → Writes a most64 v → ⊥
 
 -- a line that says something: a name, and words that fit
 record Parts (line : List ℕ) : Type 0 where
@@ -31,21 +55,16 @@ record Parts (line : List ℕ) : Type 0 where
   fit : Cannot name behind → ⊥
 
 parts : {line : List ℕ} {c : Command} → Says line c → Parts line
-parts (says.job {x} e) = record { name = Job; behind = _; are = e; fit = λ bad. bad x.now (inl refl) }
-parts (says.no_bytes {x} e none) = record { name = Job; behind = _; are = e; fit = λ bad. bad x.now (inr (refl, none)) }
+parts (says.job {x} e) = record { name = Job; behind = _; are = e; fit = λ bad. bad.1 x.now refl }
+parts (says.no_bytes {x} e none) = record { name = Job; behind = _; are = e; fit = λ bad. bad.0 refl }
 parts (says.new e) = record { name = New; behind = _; are = e; fit = λ bad. bad refl }
-parts (says.floor a b {p} {h} e v w) = record { name = Floor; behind = _; are = e; fit = λ bad. bad p h (record { first = a; second = b; are = refl; process = v; height = w }) }
-parts (says.ceiling a b {p} {h} e v w) = record { name = Ceiling; behind = _; are = e; fit = λ bad. bad p h (record { first = a; second = b; are = refl; process = v; height = w }) }
-parts (says.run a {b} e w) = record { name = Run; behind = _; are = e; fit = λ bad. bad b (record { word = a; are = refl; number = w }) }
+parts (says.floor a b {p} {h} e v w) = record { name = Floor; behind = _; are = e; fit = λ bad. bad a b p h refl v w }
+parts (says.ceiling a b {p} {h} e v w) = record { name = Ceiling; behind = _; are = e; fit = λ bad. bad a b p h refl v w }
+parts (says.run a {b} e w) = record { name = Run; behind = _; are = e; fit = λ bad. bad a b refl w }
 parts (says.read e) = record { name = Read; behind = _; are = e; fit = λ bad. bad refl }
-parts (says.probe ws hs {c} {heights} e each few padded) = record {
-  name = Probe;
-  behind = _;
-  are = e;
-  fit = λ bad. bad c heights (record { further = ws; are = refl; at = record { written = hs; each = each; few = few; padded = padded } });
-}
+parts (says.probe ws hs {c} {heights} e each few padded) = record { name = Probe; behind = _; are = e; fit = λ bad. bad c ws hs refl each few }
 parts (says.clocks e) = record { name = Clocks; behind = _; are = e; fit = λ bad. bad refl }
-parts (says.report a {size} e w) = record { name = Report; behind = _; are = e; fit = λ bad. bad size (record { word = a; are = refl; number = w }) }
+parts (says.report a {size} e w) = record { name = Report; behind = _; are = e; fit = λ bad. bad a size refl w }
 
 -- the name of a word, if it is one
 abbrev name_of : List ℕ → Name
@@ -69,49 +88,64 @@ back Probe = refl
 back Clocks = refl
 back Report = refl
 
-pub no_words : {line : List ℕ} → words line ≡ [] → (c : Command) → Says line c → ⊥
-no_words e c s = let p = parts s in let z : ◌≡◌ {A = ℕ} 0 1 = cc p.are in absurd (omega arith)
+-- a word that may be left out
+pub optional : {after left : List (List ℕ)} (r : Option (Bor (List ℕ))) (x none : Bor (List ℕ)) → MatchOption r ((after ≡ []) × (left ≡ [])) (λ w. after ≡ w.now ∷ left) → x ≡ unwrap_or r none → none.now ≡ [] → (after ≡ x.now ∷ left) ⊎ ((after ≡ []) × (left ≡ []) × (x.now ≡ []))
+optional {left = left} (Some w) x none are is empty = inl (are ∙ ap (λ b. b.now ∷ left) (sym is))
+optional None x none are is empty = inr (are.0, are.1, ap (λ b. b.now) is ∙ empty)
 
-pub no_name : {line word : List ℕ} {ws : List (List ℕ)} → words line ≡ word ∷ ws → ((n : Name) → word ≡ name_word n → ⊥) → (c : Command) → Says line c → ⊥
-no_name first none c s = let p = parts s in none p.name (cc p.are)
+-- behind the first word, which was read off
+module _ (ws after : List (List ℕ)) {r : Option (Bor (List ℕ))} {name : Bor (List ℕ)} (steps : MatchOption r ((ws ≡ []) × (after ≡ [])) (λ w. ws ≡ w.now ∷ after)) (some : r ≡ Some name) where
+  first : ws ≡ name.now ∷ after
+  first = rw some at steps
 
--- the first word is that of the name n
-pub led : {all ws : List (List ℕ)} {word : List ℕ} {m n : Name} → all ≡ word ∷ ws → word ≡ name_word m → m ≡ n → all ≡ name_word n ∷ ws
-led {ws = ws} first is same = first ∙ ap (λ w. w ∷ ws) (is ∙ ap name_word same)
+  pub no_name : ((n : Name) → name.now ≢ name_word n) → SayNone ws
+  no_name none line c of s = let p = parts s in none p.name (cc (first, of, p.are))
 
-pub not_behind : {line : List ℕ} {ws : List (List ℕ)} (n : Name) → words line ≡ name_word n ∷ ws → Cannot n ws → (c : Command) → Says line c → ⊥
-not_behind {ws = ws} n are bad c s =
-    let p = parts s in
-    let word_is : name_word n ≡ name_word p.name = cc p.are in
-    let behind_is : ws ≡ p.behind = cc p.are in
-    p.fit (subst₂ Cannot (sym (back n) ∙ ap name_of word_is ∙ back p.name) behind_is bad)
+  pub not_behind : (n : Name) → name.now ≡ name_word n → Cannot n after → SayNone ws
+  not_behind n is bad line c of s =
+      let p = parts s in
+      let word_is : name_word n ≡ name_word p.name = cc (first, of, is, p.are) in
+      let behind_is : after ≡ p.behind = cc (first, of, p.are) in
+      p.fit (subst₂ Cannot (sym (back n) ∙ ap name_of word_is ∙ back p.name) behind_is bad)
 
-module _ {line : List ℕ} {ws : List (List ℕ)} where
-  pub says_job : {x : Bor (List ℕ)} → words line ≡ name_word Job ∷ ws → Bytes ws x.now → Says line (command.Job x)
-  says_job are behind = ⊎_elim (λ e. says.job (are ∙ ap (λ l. codes "job" ∷ l) e)) (λ (e, none). says.no_bytes (are ∙ ap (λ l. codes "job" ∷ l) e) none) behind
+  pub begins_job : (x : Bor (List ℕ)) (left : List (List ℕ)) → name.now ≡ codes "job" → (after ≡ x.now ∷ left) ⊎ ((after ≡ []) × (left ≡ []) × (x.now ≡ [])) → Begin ws (command.Job x) left
+  begins_job x left is (inl e) = (λ end line of. says.job (cc (of, first, is, e, end)), λ more. not_behind Job is (λ n. absurd (cc (e, n)), λ a n. more (cc (e, n))))
+  begins_job x left is (inr (e, end, none)) = (λ _ line of. says.no_bytes (cc (of, first, is, e)) none, λ more. absurd (more end))
 
-  pub says_new : words line ≡ name_word New ∷ ws → ws ≡ [] → Says line command.New
-  says_new are e = says.new (are ∙ ap (λ l. codes "new" ∷ l) e)
+  pub begins_new : name.now ≡ codes "new" → Begin ws command.New after
+  begins_new is = (λ end line of. says.new (cc (of, first, is, end)), not_behind New is)
 
-  pub says_floor : {p h : ℕ} → words line ≡ name_word Floor ∷ ws → Two ws p h → Says line (command.Floor p h)
-  says_floor are two = says.floor two.first two.second (are ∙ ap (λ l. codes "floor" ∷ l) two.are) two.process two.height
+  pub begins_read : name.now ≡ codes "read" → Begin ws command.Read after
+  begins_read is = (λ end line of. says.read (cc (of, first, is, end)), not_behind Read is)
 
-  pub says_ceiling : {p h : ℕ} → words line ≡ name_word Ceiling ∷ ws → Two ws p h → Says line (command.Ceiling p h)
-  says_ceiling are two = says.ceiling two.first two.second (are ∙ ap (λ l. codes "ceiling" ∷ l) two.are) two.process two.height
+  pub begins_clocks : name.now ≡ codes "clocks" → Begin ws command.Clocks after
+  begins_clocks is = (λ end line of. says.clocks (cc (of, first, is, end)), not_behind Clocks is)
 
-  pub says_run : {b : ℕ} → words line ≡ name_word Run ∷ ws → One ws most32 b → Says line (command.Run b)
-  says_run are one = says.run one.word (are ∙ ap (λ l. codes "run" ∷ l) one.are) one.number
+  module _ {left : List (List ℕ)} {a : List ℕ} (e : after ≡ a ∷ left) where
+    pub begins_run : {v : ℕ} → name.now ≡ codes "run" → Writes a most32 v → Begin ws (command.Run v) left
+    begins_run is w = (λ end line of. says.run a (cc (of, first, is, e, end)) w, λ more. not_behind Run is (λ b v n _. more (cc (e, n))))
 
-  pub says_read : words line ≡ name_word Read ∷ ws → ws ≡ [] → Says line command.Read
-  says_read are e = says.read (are ∙ ap (λ l. codes "read" ∷ l) e)
+    pub begins_report : {v : ℕ} → name.now ≡ codes "report" → Writes a most64 v → Begin ws (command.Report v) left
+    begins_report is w = (λ end line of. says.report a (cc (of, first, is, e, end)) w, λ more. not_behind Report is (λ b v n _. more (cc (e, n))))
 
-  pub says_probe : {c : Asked} {hs : List ℕ} → words line ≡ name_word Probe ∷ ws → Asks ws c hs → Says line (command.Probe c hs)
-  says_probe are asks =
-      let at = asks.at in
-      says.probe asks.further at.written (are ∙ ap (λ l. codes "probe" ∷ l) asks.are) at.each at.few at.padded
+    pub begins_probe : {c : Asked} {hs : List ℕ} {end : List (List ℕ)} → name.now ≡ codes "probe" → a ≡ asked_word c → Heights left hs end → Begin ws (command.Probe c hs) end
+    begins_probe {c} {hs} {end} is asked h = (
+      λ none line of.
+          let e2 = append-nil h.read in
+          says.probe left h.written (cc (of, first, is, e, asked)) (subst (λ l. EachWrites l h.written) (cc (h.split, none, e2)) h.each) h.few h.padded,
+      λ more.
+          not_behind Probe is λ c2 further hs2 n each few.
+          let parts = length-append h.read end in
+          let same : left ≡ further = cc (e, n) in
+          ⊎_elim
+          (λ full. more (nil_from_length end (omega (arith, parts, ap length h.split, ap length same, each_length h.each, each_length each, few, full))))
+          more
+          h.full,
+    )
 
-  pub says_clocks : words line ≡ name_word Clocks ∷ ws → ws ≡ [] → Says line command.Clocks
-  says_clocks are e = says.clocks (are ∙ ap (λ l. codes "clocks" ∷ l) e)
+    module _ {last : List (List ℕ)} {b : List ℕ} (f : left ≡ b ∷ last) where
+      pub begins_floor : {p h : ℕ} → name.now ≡ codes "floor" → Writes a most64 p → Writes b most32 h → Begin ws (command.Floor p h) last
+      begins_floor is v w = (λ end line of. says.floor a b (cc (of, first, is, e, f, end)) v w, λ more. not_behind Floor is (λ a2 b2 p2 h2 n _ _. more (cc (e, f, n))))
 
-  pub says_report : {size : ℕ} → words line ≡ name_word Report ∷ ws → One ws most64 size → Says line (command.Report size)
-  says_report are one = says.report one.word (are ∙ ap (λ l. codes "report" ∷ l) one.are) one.number
+      pub begins_ceiling : {p h : ℕ} → name.now ≡ codes "ceiling" → Writes a most64 p → Writes b most32 h → Begin ws (command.Ceiling p h) last
+      begins_ceiling is v w = (λ end line of. says.ceiling a b (cc (of, first, is, e, f, end)) v w, λ more. not_behind Ceiling is (λ a2 b2 p2 h2 n _ _. more (cc (e, f, n))))

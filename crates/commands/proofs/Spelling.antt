@@ -1,6 +1,7 @@
 -- What the digits of a word spell, and what has been put into the memory. Assumes nothing.
-use Rattle.std.proofs.Common.{◌≡◌, ℕ, zero, suc, ◌+◌, ◌*◌, ◌<◌, ◌≤◌, min, true, List, [], ◌∷◌, length, get_or, set, sym, refl, ap, ◌∙◌, subst, ⊎_elim, arith, length-set}
-use Rattle.std.proofs.lemmas.List.{ext_get_or, get_or-take, get_or-set_same, get_or-set_other, length-take-le}
+use Rattle.std.proofs.Common.{◌≡◌, ℕ, zero, suc, ◌+◌, ◌*◌, ◌<◌, ◌≤◌, min, true, List, [], ◌∷◌, length, get_or, set, drop, sym, refl, ap, ◌∙◌, subst, ⊎_elim, arith, length-set}
+use Rattle.std.proofs.lemmas.List.{ext_get_or, get_or-take, get_or-drop, get_or-set_same, get_or-set_other, length-take-le}
+use Rattle.std.specs.Simd.{first_chunks}
 use Rattle.std.proofs.lemmas.Bool.{cases_eq, cases_lt}
 use Rattle.commands.specs.Words.{is_hex, hex_value, Spells, none, more, Decoded}
 
@@ -15,6 +16,21 @@ spells_hex none k h = absurd (omega arith)
 spells_hex (more a b word bytes ha hb s) zero h = ha
 spells_hex (more a b word bytes ha hb s) (suc zero) h = hb
 spells_hex (more a b word bytes ha hb s) (suc (suc k)) h = spells_hex s k (omega arith)
+
+-- the digits of a pair
+pair_at : (m : ℕ) (word : List ℕ) (i j : ℕ) → i < m → j < 2 → (at : ℕ) → at ≡ 2 * i + j → get_or (get_or (first_chunks 2 m word) i []) j 0 ≡ get_or word at 0
+pair_at zero word i j h l at e = absurd (omega arith)
+pair_at (suc m) word zero j h l at e = let same : j ≡ at = omega arith in get_or-take 2 word j 0 l ∙ ap (λ k. get_or word k 0) same
+pair_at (suc m) word (suc i) j h l at e =
+    let on : 2 + (2 * i + j) ≡ at = omega arith in
+    pair_at m (drop 2 word) i j (omega arith) l (2 * i + j) refl ∙ get_or-drop 2 word (2 * i + j) 0 ∙ ap (λ k. get_or word k 0) on
+
+module _ {pairs : List (List ℕ)} (word : List ℕ) {m i : ℕ} (front : pairs ≡ first_chunks 2 m word) (inside : i < m) where
+  pub high_at : get_or (get_or pairs i []) 0 0 ≡ get_or word (2 * i) 0
+  high_at = ap (λ ps. get_or (get_or ps i []) 0 0) front ∙ pair_at m word i 0 inside (omega arith) (2 * i) (omega arith)
+
+  pub low_at : get_or (get_or pairs i []) 1 0 ≡ get_or word (2 * i + 1) 0
+  low_at = ap (λ ps. get_or (get_or ps i []) 1 0) front ∙ pair_at m word i 1 inside (omega arith) (2 * i + 1) refl
 
 -- the byte at a place
 abbrev pub byte_at : List ℕ → ℕ → ℕ

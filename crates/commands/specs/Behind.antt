@@ -1,50 +1,42 @@
--- The names of the commands, and what stands behind each. Assumes nothing.
-use Rattle.std.specs.Prelude.{◌≡◌, ℕ, ◌≤◌, ◌⊎◌, List, [], ◌∷◌, ◌++◌, length, take, replicate, codes}
-use Rattle.commands.specs.declared.command.Asked.{Asked}
-use Rattle.commands.specs.declared.parse.Name.{Name}
-use Rattle.commands.specs.declared.parse.Name.TheVariants.{Job, New, Floor, Ceiling, Run, Read, Probe, Clocks, Report}
-use Rattle.commands.specs.Words.{Writes}
-use Rattle.commands.specs.Commands.{most32, most64, asked_word, EachWrites}
+-- What stands behind the name of a command. Assumes nothing.
+use Rattle.std.specs.Prelude.{◌≡◌, ◌≢◌, ℕ, ◌≤◌, true, List, [], ◌∷◌, ◌++◌, length, take, replicate, Result, Ok, Err, ◌⊎◌}
+use Rattle.commands.specs.declared.command.Command.{Command}
+use Rattle.commands.specs.Words.{words, all_digits}
+use Rattle.commands.specs.Commands.{EachWrites, Says}
 
--- the word of a name
-abbrev pub name_word : Name → List ℕ
-name_word Job = codes "job"
-name_word New = codes "new"
-name_word Floor = codes "floor"
-name_word Ceiling = codes "ceiling"
-name_word Run = codes "run"
-name_word Read = codes "read"
-name_word Probe = codes "probe"
-name_word Clocks = codes "clocks"
-name_word Report = codes "report"
+-- lines of these words say the command
+abbrev pub Say : List (List ℕ) → Command → Type 0
+Say ws c = (line : List ℕ) → words line ≡ ws → Says line c
 
--- the digits of a job, or none
-abbrev pub Bytes : List (List ℕ) → List ℕ → Type 0
-Bytes ws word = (ws ≡ word ∷ []) ⊎ ((ws ≡ []) × (word ≡ []))
+-- lines of these words say nothing
+abbrev pub SayNone : List (List ℕ) → Type 0
+SayNone ws = (line : List ℕ) (c : Command) → words line ≡ ws → Says line c → ⊥
 
--- one number of at most so much
-pub record One (ws : List (List ℕ)) (most v : ℕ) : Type 0 where
-  pub word : List ℕ
-  pub are : ws ≡ word ∷ []
-  pub number : Writes word most v
+-- the words begin with what the command is said by: with none behind it they say it, and else nothing
+abbrev pub Begin : List (List ℕ) → Command → List (List ℕ) → Type 0
+Begin ws c behind = (behind ≡ [] → Say ws c) × (behind ≢ [] → SayNone ws)
 
--- a process and a height
-pub record Two (ws : List (List ℕ)) (p h : ℕ) : Type 0 where
-  pub first : List ℕ
-  pub second : List ℕ
-  pub are : ws ≡ first ∷ second ∷ []
-  pub process : Writes first most64 p
-  pub height : Writes second most32 h
+module _ {A E : Type 0} (gives : List ℕ → Result A E → Type 0) where
+  -- the first word has digits alone, and they are read as v
+  pub record Number (ws : List (List ℕ)) (v : A) (after : List (List ℕ)) : Type 0 where
+    pub word : List ℕ
+    pub are : ws ≡ word ∷ after
+    pub digits : all_digits word ≡ true
+    pub value : gives word (Ok v)
 
--- at most 32 heights, with 0 for those left out
-pub record Heights (ws : List (List ℕ)) (heights : List ℕ) : Type 0 where
+  -- the first word has others, or is not read
+  abbrev pub NoNumber : List (List ℕ) → Type 0
+  NoNumber ws = (word : List ℕ) (after : List (List ℕ)) → ws ≡ word ∷ after → all_digits word ≡ true → (e : E) × gives word (Err e)
+
+-- at most 32 heights, with 0 for those left out; and more words behind them only if there are 32
+pub record Heights (ws : List (List ℕ)) (heights : List ℕ) (after : List (List ℕ)) : Type 0 where
+  pub read : List (List ℕ)
   pub written : List ℕ
-  pub each : EachWrites ws written
+  pub split : ws ≡ read ++ after
+  pub each : EachWrites read written
   pub few : length written ≤ 32
+  pub full : (length written ≡ 32) ⊎ (after ≡ [])
   pub padded : heights ≡ take 32 (written ++ replicate 32 0)
 
--- a condition and heights
-pub record Asks (ws : List (List ℕ)) (c : Asked) (heights : List ℕ) : Type 0 where
-  pub further : List (List ℕ)
-  pub are : ws ≡ asked_word c ∷ further
-  pub at : Heights further heights
+abbrev pub NoHeights : List (List ℕ) → Type 0
+NoHeights ws = (hs : List ℕ) → EachWrites ws hs → length hs ≤ 32 → ⊥

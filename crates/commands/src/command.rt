@@ -1,11 +1,13 @@
-ghost use Rattle.std.specs.Prelude.{Some};
+ghost use Rattle.std.specs.Prelude.{◌≡◌, ◌≢◌, Some, MatchResult};
+ghost use Rattle.commands.specs.Commands.{asked_word};
 ghost use Rattle.commands.specs.Faults.{fault_text};
+ghost use Rattle.commands.specs.declared.command.Asked.{Asked as TheAsked};
 
 use std::error::Error;
 use std::fmt;
 
 // A condition that a probe asks.
-#[derive(Clone, Copy)]
+#[derive(Clone, Copy, Debug, PartialEq, Eq)]
 pub enum Asked {
     Job,
     Consistent,
@@ -14,8 +16,26 @@ pub enum Asked {
     Gates,
 }
 
+// By its name.
+impl TryFrom<&[u8]> for Asked {
+    type Error = LineFault;
+
+    ghost try_from_gives = { λ word r. MatchResult r (λ c. word.now ≡ asked_word c) (λ _. (c : TheAsked) → word.now ≢ asked_word c) };
+
+    fn try_from(word: &[u8]) -> Result<Asked, LineFault> {
+        match word {
+            b"job" => Ok(Asked::Job),
+            b"consistent" => Ok(Asked::Consistent),
+            b"watched" => Ok(Asked::Watched),
+            b"channels" => Ok(Asked::Channels),
+            b"gates" => Ok(Asked::Gates),
+            _ => Err(LineFault::Condition),
+        }
+    }
+}
+
 // What a line of a replay says. The bytes of a job are still in hexadecimal digits.
-#[derive(Clone, Copy)]
+#[derive(Clone, Copy, Debug, PartialEq, Eq)]
 pub enum Command<'a> {
     Job(&'a [u8]),
     New,

@@ -1,23 +1,18 @@
-ghost use Rattle.std.specs.Prelude.{◌≡◌, ℕ, MatchOption};
-ghost use Rattle.commands.specs.Words.{Writes};
+ghost use Rattle.std.specs.Prelude.{◌≡◌, Ok, Err, true, MatchOption};
+ghost use Rattle.commands.specs.Words.{all_digits};
 
-// The number that a word writes, if it is at most so much.
-pub(crate) fn number(word: &[u8], most: u64) -> Option<u64>
-    ensures { MatchOption result ((v : ℕ) → Writes word.now most v → ⊥) (λ v. Writes word.now most v) }
+use std::str;
+use std::str::FromStr;
+
+// The number that a word of digits alone writes, if it fits its type.
+pub(crate) fn number<T: FromStr>(word: &[u8]) -> Option<T>
+where
+    T::Err: Drop,
+    ensures { MatchOption result (all_digits word.now ≡ true → (e : T.Err) × T.from_str_gives word.now (Err e)) (λ v. (all_digits word.now ≡ true) × T.from_str_gives word.now (Ok v)) }
 {
-    if word.is_empty() {
+    // No sign may stand in front, which `parse` takes.
+    if !word.iter().all(u8::is_ascii_digit) {
         return None;
     }
-    let mut value = 0u64;
-    for &byte in word {
-        if byte < b'0' || byte > b'9' {
-            return None;
-        }
-        let digit = (byte - b'0') as u64;
-        if value > most / 10 || digit > most - value * 10 {
-            return None;
-        }
-        value = value * 10 + digit;
-    }
-    Some(value)
+    str::from_utf8(word).ok()?.parse().ok()
 }

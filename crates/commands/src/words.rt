@@ -1,41 +1,48 @@
-ghost use Rattle.std.specs.Prelude.{◌≡◌, ℕ, ◌<◌, ◌≤◌, [], ◌∷◌, length, drop, MatchOption, slice_index};
-ghost use Rattle.commands.specs.Words.{words};
+ghost use Rattle.std.specs.Prelude.{◌≡◌, ℕ, List};
+ghost use Rattle.std.specs.Iterator.{YieldsFirstRef, item_count};
+ghost use Rattle.commands.specs.Words.{is_blank as blank_byte, words};
 
-// How many blanks stand in front of the first word.
-fn blanks(line: &[u8]) -> usize
-    ensures within { result ≤ length line.now }
-    ensures same { words (drop result line.now) ≡ words line.now }
-    ensures stops { result < length line.now → 32 < slice_index line.now result }
-{
-    for (i, byte) in line.iter().enumerate() {
-        if *byte > b' ' {
-            return i;
-        }
-    }
-    line.len()
+use std::marker::Model;
+
+// The words of a line that are not read yet.
+#[derive(Drop)]
+pub(crate) struct Words<'a> {
+    line: &'a [u8],
 }
 
-// How many bytes stand in front of the first blank.
-fn full_bytes(line: &[u8]) -> usize
-    ensures within { result ≤ length line.now }
-    ensures all { (k : ℕ) → k < result → 32 < slice_index line.now k }
-    ensures stops { result < length line.now → slice_index line.now result ≤ 32 }
-{
-    for (i, byte) in line.iter().enumerate() {
-        if *byte <= b' ' {
-            return i;
-        }
-    }
-    line.len()
+impl<'a> Model for Words<'a> {
+    ghost Value = { List (List ℕ) };
+
+    ghost view = { λ s. words s.line.now };
 }
 
-// The first word of a line with what follows it, if there is a word.
-pub(crate) fn next_word<'a>(line: &'a [u8]) -> Option<(&'a [u8], &'a [u8])>
-    ensures { MatchOption result (words line.now ≡ []) (λ x. words line.now ≡ x.0.now ∷ words x.1.now) }
+fn is_blank(byte: &u8) -> bool
+    ensures { result ≡ blank_byte byte.now }
 {
-    let start = &line[blanks(line)..];
-    if start.is_empty() {
-        return None;
+    *byte <= b' '
+}
+
+impl<'a> Words<'a> {
+    pub(crate) fn new(line: &'a [u8]) -> Words<'a>
+        ensures { result ≡ words line.now }
+    {
+        Words { line }
     }
-    Some(start.split_at(full_bytes(start)))
+}
+
+impl<'a> Iterator for Words<'a> {
+    type Item = &'a [u8];
+
+    ghost next_gives = { YieldsFirstRef (λ rest. rest) };
+
+    ghost remaining = { item_count (λ rest. rest) };
+
+    fn next(&mut self) -> Option<&'a [u8]> {
+        let start = self.line.iter().position(|byte| !is_blank(byte))?;
+        let line = &self.line[start..];
+        let end = line.iter().position(is_blank).unwrap_or(line.len());
+        let (word, rest) = line.split_at(end);
+        self.line = rest;
+        Some(word)
+    }
 }
