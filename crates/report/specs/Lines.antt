@@ -1,8 +1,9 @@
 -- The text of a report, and where it is put. Assumes nothing.
 use Rattle.std.specs.Prelude.{◌≡◌, ℕ, zero, suc, ◌<◌, cond, List, [], ◌∷◌, ◌++◌, length, drop, decimal, Result, MatchResult, ◌==◌, nat_lt}
 use Rattle.refusal.specs.declared.Layer.TheVariants.{Report}
+use Rattle.refusal.specs.declared.Rule.TheVariants.{Room}
 use Rattle.refusal.specs.declared.Refusal.{Refusal}
-use Rattle.refusal.specs.Table.{refusal_words}
+use Rattle.refusal.specs.Table.{row, refusal_words}
 use Rattle.lattice.specs.declared.vector.Vector.{Vector}
 use Rattle.lattice.specs.declared.board.Reading.{Reading}
 use Rattle.lattice.specs.declared.verdict.Verdict.{Verdict}
@@ -12,7 +13,6 @@ use Rattle.lattice.specs.Words.{verdict_word}
 use Rattle.gates.specs.Gates.{sides}
 use Rattle.jobfile.specs.declared.job.Job.{Job as TheJob}
 use Rattle.jobfile.specs.Jobs.{places_of}
-use Rattle.wire.specs.Parts.{row}
 
 -- as in: refused 4 at 1 in frame
 abbrev pub text_of_refusal : Refusal → List ℕ
@@ -50,4 +50,4 @@ text_of_job j r = report_text j.letter (places_of j) (shown_by j r.vector) r.ver
 
 -- the text stands at the front of the memory, and what stood behind it is unaltered; or it is longer than the memory, which stays as it was
 abbrev pub Placed : List ℕ → List ℕ → Result ℕ Refusal → List ℕ → Type 0
-Placed old text r new = MatchResult r (λ n. (n ≡ length text) × (new ≡ text ++ drop n old)) (λ e. (e ≡ row 12 (length text) Report) × (length old < length text) × (new ≡ old))
+Placed old text r new = MatchResult r (λ n. (n ≡ length text) × (new ≡ text ++ drop n old)) (λ e. (e ≡ row Room (length text) Report) × (length old < length text) × (new ≡ old))

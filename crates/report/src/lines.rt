@@ -25,7 +25,7 @@ pub fn refusal_text(refusal: &Refusal) -> Text
 {
     let mut text = Text::new();
     text.push_str("refused ");
-    text.push_str(Buffer::new().format(refusal.number));
+    text.push_str(Buffer::new().format(refusal.number()));
     text.push_str(" at ");
     text.push_str(Buffer::new().format(refusal.position));
     text.push_str(" in ");

@@ -5,7 +5,7 @@ ghost use Rattle.report.specs.Lines.{text_of_refusal, text_of_job, Placed};
 use crate::lines::{Report, refusal_text};
 use jobfile::job::Job;
 use lattice::board::Board;
-use refusal::{Layer, Refusal};
+use refusal::{Layer, Refusal, Rule};
 
 // Puts a text at the front of the memory; a text that is longer is refused.
 fn place(text: &[u8], memory: &mut [u8]) -> Result<usize, Refusal>
@@ -14,7 +14,7 @@ fn place(text: &[u8], memory: &mut [u8]) -> Result<usize, Refusal>
     let needed = text.len();
     if needed > memory.len() {
         return Err(Refusal {
-            number: 12,
+            rule: Rule::Room,
             position: needed,
             layer: Layer::Report,
         });
