@@ -1,20 +1,16 @@
 -- From the frame of a file and what was taken of its body to the job of the whole file, or to what is broken. Assumes nothing.
-use Rattle.std.proofs.Common.{◌≡◌, ℕ, ◌+◌, ◌<◌, ◌≤◌, List, ◌++◌, length, get_or, drop, sym, refl, ap, ◌∙◌, subst, subst₂, ⊎_elim, append-nil, arith}
+use Rattle.std.proofs.Common.{◌≡◌, ℕ, ◌+◌, ◌<◌, ◌≤◌, List, ◌++◌, length, get_or, drop, sym, refl, ap, ◌∙◌, subst, subst₂, append-nil, arith}
 use Rattle.std.proofs.lemmas.List.{nil_from_length}
 use Rattle.refusal.specs.declared.Refusal.{Refusal}
 use Rattle.gates.specs.declared.gates.Gates.{Gates}
 use Rattle.cuts.specs.declared.job.TraceJob.{TraceJob}
 use Rattle.cuts.specs.Jobs.{listed, happened}
 use Rattle.wire.specs.declared.reader.Reader.{Reader}
-use Rattle.wire.specs.Frames.{largest, headed, IsLetter, Framed, Behind}
+use Rattle.wire.specs.Frames.{largest, headed, Framed, Behind}
 use Rattle.jobfile.specs.Forms.{Form, letter_of, size_of, body_of, encoded, Rules}
 use Rattle.jobfile.specs.Table.{TraceBroken, GatesBroken, Broken, trace, gates, behind}
 use Rattle.jobfile.specs.Fields.{TraceRead, GatesRead}
 use Rattle.jobfile.specs.Jobs.{HeldBy, Whole}
-
--- a letter that is not T is M
-pub other_letter : {letter : ℕ} → IsLetter letter → (letter ≡ 84 → ⊥) → letter ≡ 77
-other_letter is other = ⊎_elim (λ t. absurd (other t)) (λ m. m) is
 
 -- a reader that stands behind the frame
 pub record Begins (file : List ℕ) (letter n : ℕ) (before : Reader) : Type 0 where

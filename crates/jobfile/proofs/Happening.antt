@@ -1,5 +1,5 @@
 -- An event that is read: its record, and what the trace says of it; and events in a row. Assumes nothing.
-use Rattle.std.proofs.Common.{◌≡◌, ℕ, ◌+◌, ◌-◌, ◌<◌, ◌≤◌, List, [], ◌++◌, length, take, replicate, Ok, Err, sym, refl, ap, ◌∙◌, subst, subst₂, append_assoc, arith, take-take, take_at}
+use Rattle.std.proofs.Common.{◌≡◌, ℕ, ◌+◌, ◌-◌, ◌<◌, ◌≤◌, List, [], ◌++◌, length, take, replicate, Ok, Err, sym, refl, ap, ◌∙◌, subst, subst₂, append_assoc, arith, take-take, take_at, Result, MatchResult}
 use Rattle.std.specs.List.{flat_map, AllByRecursion}
 use Rattle.std.proofs.lemmas.List.{length_push, flat_map_more}
 use Rattle.std.proofs.ByRecursion.{All-push}
@@ -19,7 +19,9 @@ use Rattle.cuts.specs.declared.fault.JobFault.{JobFault}
 use Rattle.cuts.specs.declared.job.TraceJob.{TraceJob}
 use Rattle.cuts.specs.Jobs.{processes, happened, padded, BadEvent, no_payload, refused, EventOf, Recorded}
 use Rattle.wire.specs.declared.reader.Reader.{Reader}
-use Rattle.wire.specs.Parts.{row, Each, next}
+use Rattle.refusal.specs.declared.Rule.TheVariants as rule
+use Rattle.refusal.specs.Table.{row}
+use Rattle.wire.specs.Parts.{Each, next}
 use Rattle.wire.specs.Records.{Raw, sized_record, OwnRules, RecordBroken}
 use Rattle.jobfile.specs.Forms.{record_with, record_of, event_bytes, EventOk, EventsOk}
 use Rattle.jobfile.specs.Table.{EventBroken}
@@ -96,9 +98,10 @@ module _ (before : Reader) (j : TraceJob) (n width : ℕ) (same_n : n ≡ proces
       stood : before.rest.now ≡ event_bytes (width_of j.wish) ev ++ left.rest.now
       stood = read.1 ∙ ap (λ z. sized_record z ++ left.rest.now) (sym (its_record (processes j) (width_of j.wish) (narrow j.wish) p a x ev is own ∙ parts))
 
-    -- and the job took it
-    pub event_read : (k : TraceJob) → Recorded p a x j (Ok tt) k → EventRead before left j k
-    event_read k r = record {
+    -- and the job took it, or refused it
+    pub event_pushed : (k : TraceJob) (r : Result (Unit {0}) JobFault) (place : ℕ) → length (happened j) < longest → place ≡ before.total - length before.rest.now → Recorded p a x j r k →
+        MatchResult r (λ _. EventRead before left j k) (λ _. Breaks (row rule.Message place Job))
+    event_pushed k (Ok u) place room at r = record {
       event = r.event;
       ok = rules r.event r.is;
       valid = r.outcome.1;
@@ -106,11 +109,7 @@ module _ (before : Reader) (j : TraceJob) (n width : ℕ) (same_n : n ≡ proces
       list = r.outcome.2;
       same = record { processes = r.outcome.3; wish = r.outcome.4; watch = r.outcome.5; channels = r.outcome.6 };
     }
-
-    -- or refused it
-    pub event_breaks : (k : TraceJob) (e : JobFault) (place : ℕ) → length (happened j) < longest → place ≡ before.total - length before.rest.now →
-        Recorded p a x j (Err e) k → Breaks (row 9 place Job)
-    event_breaks k e place room at r =
+    event_pushed k (Err e) place room at r =
         let long = own_payload (processes j) (width_of j.wish) p x a own in
         let ok = rules r.event r.is in
         rw at (message r.event left.rest.now (stood r.event r.is) ok (only_messages j x r.event e room long ok r.outcome.0))

@@ -15,7 +15,9 @@ use Rattle.gates.specs.declared.side.Side.{Side}
 use Rattle.gates.specs.declared.side.Side.TheVariants as side
 use Rattle.gates.specs.Gates.{sides, rows_of, table_of, other_of, RowPut}
 use Rattle.wire.specs.declared.reader.Reader.{Reader}
-use Rattle.wire.specs.Parts.{row, after, next}
+use Rattle.refusal.specs.declared.Rule.TheVariants as rule
+use Rattle.refusal.specs.Table.{row}
+use Rattle.wire.specs.Parts.{after, next}
 use Rattle.wire.specs.declared.record.RecordFault.{RecordFault}
 use Rattle.wire.specs.declared.record.RecordFault.TheVariants.{Row}
 use Rattle.wire.specs.Records.{RowShort, record_row}
@@ -34,7 +36,7 @@ module _ (i n : ℕ) (before left : Reader) (g : Gates) (list : List ℕ) (same 
     (read : (length list ≡ n) × (before.rest.now ≡ list ++ left.rest.now) × (left.total ≡ before.total)) where
   -- and no order
   row_unfit : (e : OrderFault) (place : ℕ) → i < (sides g).n → place ≡ before.total - length before.rest.now → Unfit (sides g).n i list e →
-      RowBroken (sides g).n before.total before.rest.now (row 10 place Record)
+      RowBroken (sides g).n before.total before.rest.now (row rule.Row place Record)
   row_unfit _ place inside at (no_row beyond) = absurd (omega arith)
   row_unfit _ place inside at (no_order _ none) = rw at (disorder list left.rest.now (read.0 ∙ same) read.1 none)
 

@@ -1,6 +1,5 @@
 -- What the conditions of a job are, by its letter. Assumes nothing.
-use Rattle.std.proofs.Common.{◌≡◌, refl, ap, ◌∙◌, inl, inr, ⊎_elim, arith}
-use Rattle.std.proofs.lemmas.Bool.{eqb-true, or_cases}
+use Rattle.std.proofs.Common.{◌≡◌, ◌⊎◌, Option, None, Some, refl, ap, ◌∙◌, inl, inr, arith}
 use Rattle.lattice.specs.declared.vector.Vector.{Vector}
 use Rattle.lattice.specs.declared.condition.Reply.{Reply}
 use Rattle.lattice.specs.declared.condition.Reply.TheVariants.{Holds, Lift, Never}
@@ -19,8 +18,12 @@ use Rattle.cuts.specs.Jobs as cuts
 use Rattle.cuts.specs.Closed.{consistent_lawful, consistent_blank}
 use Rattle.cuts.specs.Watching.{watched_lawful, watched_blank}
 use Rattle.cuts.specs.Emptied.{channels_lawful, channels_blank}
+use Rattle.wire.specs.declared.frame.JobKind.{JobKind}
+use Rattle.wire.specs.declared.frame.JobKind.TheVariants as kind
+use Rattle.wire.specs.Frames.{trace_letter, gates_letter}
 use Rattle.jobfile.specs.declared.job.Job.{Job}
-use Rattle.jobfile.specs.Jobs.{Everywhere, trace_reply, Serves}
+use Rattle.jobfile.specs.Forms.{blank_letter, letter_by}
+use Rattle.jobfile.specs.Jobs.{letter_of_job, Everywhere, trace_reply, Serves}
 
 -- a lawful condition whose reply is always "holds"
 everywhere : {holds : Vector → Type 0} {reply : Vector → Reply} → Lawful holds reply → ((v : Vector) → reply v ≡ Holds) → Everywhere holds reply
@@ -56,12 +59,18 @@ trace_holds t none v =
     let (consistent, (watched, channels)) = trace_everywhere t none in
     λ i. joined ((consistent v).1 i) (joined ((watched v).1 i) ((channels v).1 i))
 
+-- the letters of jobs
+lettered : (kind : Option JobKind) → (letter_by kind ≡ trace_letter) ⊎ ((letter_by kind ≡ gates_letter) ⊎ (letter_by kind ≡ blank_letter))
+lettered (Some (kind.Trace)) = inl refl
+lettered (Some (kind.Gates)) = inr (inl refl)
+lettered None = inr (inr refl)
+
 pub serves : (j : Job) → Serves j
 serves j =
-    let no_trace : (j.letter ≡ 84 → ⊥) → cuts.processes j.trace ≡ 0 = j.no_trace in
-    let no_gates : (j.letter ≡ 77 → ⊥) → (sides j.gates).n ≡ 0 = j.no_gates in
+    let no_trace : (letter_of_job j ≡ 84 → ⊥) → cuts.processes j.trace ≡ 0 = j.no_trace in
+    let no_gates : (letter_of_job j ≡ 77 → ⊥) → (sides j.gates).n ≡ 0 = j.no_gates in
     record {
-      lettered = ⊎_elim (λ t. inl (eqb-true _ _ t)) (λ o. inr (⊎_elim (λ m. inl (eqb-true _ _ m)) (λ b. inr (eqb-true _ _ b)) (or_cases _ _ o))) (or_cases _ _ j.lettered);
+      lettered = lettered j.kind;
       no_places = λ is. rw is refl;
       no_trace = λ other. trace_everywhere j.trace (no_trace other);
       no_gates = λ other. gates_everywhere j.gates (no_gates other);

@@ -1,8 +1,10 @@
 -- The faults of the job reader as rows, and what its steps take off a body and where they put it. Assumes nothing.
-use Rattle.std.specs.Prelude.{◌≡◌, ℕ, ◌<◌, List, [], ◌∷◌, ◌++◌, length, ◌≢◌, slice_index}
+use Rattle.std.specs.Prelude.{◌≡◌, ℕ, ◌<◌, List, [], ◌∷◌, ◌++◌, length, Result, MatchResult, ◌≢◌, slice_index}
 use Rattle.std.specs.List.{flat_map, AllByRecursion}
 use Rattle.refusal.specs.declared.Layer.TheVariants.{Job}
 use Rattle.refusal.specs.declared.Refusal.{Refusal}
+use Rattle.refusal.specs.declared.Rule.TheVariants as rule
+use Rattle.refusal.specs.Table.{row}
 use Rattle.gates.specs.declared.gates.Gates.{Gates}
 use Rattle.gates.specs.declared.order.Order.{Order}
 use Rattle.gates.specs.declared.side.Side.{Side}
@@ -15,7 +17,6 @@ use Rattle.cuts.specs.declared.channel.Channel.{Channel}
 use Rattle.cuts.specs.declared.job.TraceJob.{TraceJob}
 use Rattle.cuts.specs.Jobs.{processes, happened, listed}
 use Rattle.wire.specs.declared.reader.Reader.{Reader}
-use Rattle.wire.specs.Parts.{row}
 use Rattle.wire.specs.Frames.{frame_row}
 use Rattle.wire.specs.Records.{record_row}
 use Rattle.jobfile.specs.declared.fault.JobFault.{JobFault}
@@ -28,9 +29,9 @@ use Rattle.jobfile.specs.Forms.{channel_bytes, event_bytes, trace_bytes, row_byt
 abbrev pub job_row : JobFault → Refusal
 job_row (fault.Frame e) = frame_row e
 job_row (fault.Record e) = record_row e
-job_row (fault.Missing p) = row 2 p Job
-job_row (fault.Field p) = row 7 p Job
-job_row (fault.Message p) = row 9 p Job
+job_row (fault.Missing p) = row rule.Missing p Job
+job_row (fault.Field p) = row rule.Field p Job
+job_row (fault.Message p) = row rule.Message p Job
 
 -- the letter of a kind of payload
 abbrev pub letter_of_kind : Kind → ℕ
@@ -41,6 +42,18 @@ letter_of_kind kinds.Scan = 67
 pub record Took (bytes : List ℕ) (before left : Reader) : Type 0 where
   pub is : before.rest.now ≡ bytes ++ left.rest.now
   pub total : left.total ≡ before.total
+
+-- so many bytes
+pub record Bytes (width : ℕ) (bytes : List ℕ) : Type 0 where
+  pub long : length bytes ≡ width
+  pub small : (k : ℕ) → slice_index bytes k < 256
+
+-- so many bytes are taken, or they are not there
+abbrev pub Short : ℕ → Reader → JobFault → Type 0
+Short width before e = (length before.rest.now < width) × (job_row e ≡ row rule.Missing before.total Job)
+
+abbrev pub BytesRead : ℕ → Reader → Result (List ℕ) JobFault → Reader → Type 0
+BytesRead width before r left = MatchResult r (λ bytes. Bytes width bytes × Took bytes before left) (λ e. Short width before e)
 
 -- the wish that so many bytes state
 pub record PayloadRead {W : Type 0} (wide : ℕ) (stated : List ℕ → W) (wish : W) (before left : Reader) : Type 0 where

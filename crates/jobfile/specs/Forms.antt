@@ -1,5 +1,5 @@
 -- Jobs as values, which of them are well formed, and the bytes that a job file has for each. Assumes nothing.
-use Rattle.std.specs.Prelude.{◌≡◌, ℕ, ◌+◌, ◌^◌, ◌<◌, ◌≤◌, Bool, ◌||◌, List, [], ◌∷◌, ◌++◌, length, take, ◌==◌, ◌≢◌, slice_index}
+use Rattle.std.specs.Prelude.{◌≡◌, ℕ, ◌+◌, ◌^◌, ◌<◌, ◌≤◌, Option, None, Some, List, [], ◌∷◌, ◌++◌, length, take, ◌≢◌, slice_index}
 use Rattle.std.specs.List.{flat_map, AllByRecursion}
 use Rattle.gates.specs.Orders.{OrderOf}
 use Rattle.payload.specs.declared.wish.Wish.{Wish}
@@ -12,15 +12,17 @@ use Rattle.trace.specs.Rules.{Valid}
 use Rattle.cuts.specs.declared.channel.Channel.{Channel}
 use Rattle.cuts.specs.Jobs.{padded}
 use Rattle.wire.specs.Bytes.{word2}
-use Rattle.wire.specs.Frames.{trace_letter, gates_letter, headed, largest, most}
+use Rattle.wire.specs.declared.frame.JobKind.{JobKind}
+use Rattle.wire.specs.Frames.{trace_letter, gates_letter, job_letter, headed, largest, most}
 use Rattle.wire.specs.Records.{Raw, local, send, receive, sized_record, OwnRules}
 
 -- the letters of a job: T for a trace, M for gates, and - for a blank one
 abbrev pub blank_letter : ℕ
 blank_letter = 45
 
-abbrev pub is_job_letter : ℕ → Bool
-is_job_letter letter = letter == trace_letter || (letter == gates_letter || letter == blank_letter)
+abbrev pub letter_by : Option JobKind → ℕ
+letter_by (Some kind) = job_letter kind
+letter_by None = blank_letter
 
 pub data Form : Type 0 where
   -- n, the watch bits, the wish, the channels and the events

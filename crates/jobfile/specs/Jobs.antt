@@ -17,17 +17,21 @@ use Rattle.cuts.specs.declared.job.TraceJob.{TraceJob}
 use Rattle.cuts.specs.Jobs as cuts
 use Rattle.jobfile.specs.declared.job.Job.{Job}
 use Rattle.wire.specs.Frames.{trace_letter, gates_letter}
-use Rattle.jobfile.specs.Forms.{blank_letter, Form, trace, gates, encoded, WellFormed}
+use Rattle.jobfile.specs.Forms.{blank_letter, letter_by, Form, trace, gates, encoded, WellFormed}
 use Rattle.jobfile.specs.Table.{Broken}
 use Rattle.jobfile.specs.Fields.{Stand}
 
+-- the letter of a job
+abbrev pub letter_of_job : Job → ℕ
+letter_of_job j = letter_by j.kind
+
 -- how many places a job is about
 abbrev pub places_of : Job → ℕ
-places_of j = cond (j.letter == trace_letter) (cuts.processes j.trace) (cond (j.letter == gates_letter) (sides j.gates).n 0)
+places_of j = cond (letter_of_job j == trace_letter) (cuts.processes j.trace) (cond (letter_of_job j == gates_letter) (sides j.gates).n 0)
 
 -- a blank job: neither trace nor gates
 pub record Blank (j : Job) : Type 0 where
-  pub letter : j.letter ≡ blank_letter
+  pub letter : letter_of_job j ≡ blank_letter
   pub trace : cuts.Blank j.trace
   pub gates : (sides j.gates).n ≡ 0
 
@@ -58,7 +62,7 @@ RestBlank t g (gates n vans rows) = cuts.Blank t
 
 -- the job is just what the form says
 abbrev pub Held : Job → Form → Type 0
-Held j form = HeldBy j.letter j.trace j.gates form × RestBlank j.trace j.gates form
+Held j form = HeldBy (letter_of_job j) j.trace j.gates form × RestBlank j.trace j.gates form
 
 -- the whole file was read, and the part that the letter does not name is as it was
 pub record Whole (file : List ℕ) (letter : ℕ) (t t' : TraceJob) (g g' : Gates) : Type 0 where
@@ -100,12 +104,12 @@ job_reply j v = joined (trace_reply j.trace v) (reply_to (sides j.gates) (at v))
 -- what the conditions of a job are, by its letter
 pub record Serves (j : Job) : Type 0 where
   -- the letter is T, M or -, and a blank job has no places
-  pub lettered : (j.letter ≡ trace_letter) ⊎ ((j.letter ≡ gates_letter) ⊎ (j.letter ≡ blank_letter))
-  pub no_places : j.letter ≡ blank_letter → places_of j ≡ 0
+  pub lettered : (letter_of_job j ≡ trace_letter) ⊎ ((letter_of_job j ≡ gates_letter) ⊎ (letter_of_job j ≡ blank_letter))
+  pub no_places : letter_of_job j ≡ blank_letter → places_of j ≡ 0
   -- those of a trace hold everywhere unless the letter is T, and that of gates unless it is M
-  pub no_trace : (j.letter ≢ trace_letter) → Everywhere (cuts.Consistent j.trace) (cuts.consistent_reply j.trace) × (Everywhere (cuts.Watched j.trace) (cuts.watched_reply j.trace) × Everywhere (cuts.Empty j.trace) (cuts.channels_reply j.trace))
-  pub no_gates : (j.letter ≢ gates_letter) → Everywhere (λ v. Stable (sides j.gates) (at v)) (λ v. reply_to (sides j.gates) (at v))
+  pub no_trace : (letter_of_job j ≢ trace_letter) → Everywhere (cuts.Consistent j.trace) (cuts.consistent_reply j.trace) × (Everywhere (cuts.Watched j.trace) (cuts.watched_reply j.trace) × Everywhere (cuts.Empty j.trace) (cuts.channels_reply j.trace))
+  pub no_gates : (letter_of_job j ≢ gates_letter) → Everywhere (λ v. Stable (sides j.gates) (at v)) (λ v. reply_to (sides j.gates) (at v))
   -- so the job's own condition is that of its kind
-  pub of_trace : j.letter ≡ trace_letter → (v : Vector) → (job_reply j v ≡ trace_reply j.trace v) × ((JobHolds j v → TraceHolds j.trace v) × (TraceHolds j.trace v → JobHolds j v))
-  pub of_gates : j.letter ≡ gates_letter → (v : Vector) → (job_reply j v ≡ reply_to (sides j.gates) (at v)) × ((JobHolds j v → Stable (sides j.gates) (at v)) × (Stable (sides j.gates) (at v) → JobHolds j v))
-  pub of_blank : j.letter ≡ blank_letter → Everywhere (JobHolds j) (job_reply j)
+  pub of_trace : letter_of_job j ≡ trace_letter → (v : Vector) → (job_reply j v ≡ trace_reply j.trace v) × ((JobHolds j v → TraceHolds j.trace v) × (TraceHolds j.trace v → JobHolds j v))
+  pub of_gates : letter_of_job j ≡ gates_letter → (v : Vector) → (job_reply j v ≡ reply_to (sides j.gates) (at v)) × ((JobHolds j v → Stable (sides j.gates) (at v)) × (Stable (sides j.gates) (at v) → JobHolds j v))
+  pub of_blank : letter_of_job j ≡ blank_letter → Everywhere (JobHolds j) (job_reply j)

@@ -3,13 +3,15 @@ use Rattle.std.specs.Prelude.{◌≡◌, ℕ, ◌-◌, ◌^◌, ◌<◌, ◌≤�
 use Rattle.std.specs.List.{flat_map, AllByRecursion}
 use Rattle.refusal.specs.declared.Layer.TheVariants.{Record, Job}
 use Rattle.refusal.specs.declared.Refusal.{Refusal}
+use Rattle.refusal.specs.declared.Rule.TheVariants as rule
+use Rattle.refusal.specs.Table.{row}
 use Rattle.payload.specs.declared.wish.Wish.{Wish}
 use Rattle.payload.specs.Marks.{width_of}
 use Rattle.trace.specs.declared.event.Event.{Event}
 use Rattle.trace.specs.Events.{longest}
 use Rattle.trace.specs.Growth.{BreaksMessages}
 use Rattle.wire.specs.Bytes.{word2}
-use Rattle.wire.specs.Parts.{row, Then, Each, FieldBroken}
+use Rattle.wire.specs.Parts.{Then, Each, FieldBroken}
 use Rattle.wire.specs.Frames.{trace_letter, gates_letter, Framed, FrameBroken, Behind}
 use Rattle.wire.specs.Records.{RecordBroken}
 use Rattle.jobfile.specs.Forms.{Form, letter_of, size_of, kind_letter, wish_bytes, channel_bytes, event_bytes, row_bytes, body_of, WishFits, ChannelOk, EventOk, EventsOk, RowOk, Rules}
@@ -59,7 +61,7 @@ ChannelBroken n total = ByteThen (λ sender. sender < n) total (λ sender. Field
 -- an event is broken after those before it: its record is, or it keeps its own rules and breaks one of messages
 pub data EventBroken (n width total : ℕ) (es : List Event) (s : List ℕ) : Refusal → Type 0 where
   itself : {r : Refusal} → RecordBroken total n width s r → EventBroken n width total es s r
-  message : (e : Event) (t : List ℕ) → s ≡ event_bytes width e ++ t → EventOk n width e → BreaksMessages es e.process e.action → EventBroken n width total es s (row 9 (total - length s) Job)
+  message : (e : Event) (t : List ℕ) → s ≡ event_bytes width e ++ t → EventOk n width e → BreaksMessages es e.process e.action → EventBroken n width total es s (row rule.Message (total - length s) Job)
 
 -- the body of a trace job, in file order
 abbrev pub TraceBroken : ℕ → ℕ → List ℕ → Refusal → Type 0
@@ -74,8 +76,8 @@ TraceBroken n total =
 
 -- a row of n bytes is not there, or is no order of the numbers below n
 pub data RowBroken (n total : ℕ) (s : List ℕ) : Refusal → Type 0 where
-  missing : length s < n → RowBroken n total s (row 2 total Record)
-  no_order : (list t : List ℕ) → length list ≡ n → s ≡ list ++ t → (RowOk n list → ⊥) → RowBroken n total s (row 10 (total - length s) Record)
+  missing : length s < n → RowBroken n total s (row rule.Missing total Record)
+  no_order : (list t : List ℕ) → length list ≡ n → s ≡ list ++ t → (RowOk n list → ⊥) → RowBroken n total s (row rule.Row (total - length s) Record)
 
 -- n rows for the vans, and then n for the gates
 abbrev pub RowsBroken : ℕ → ℕ → List ℕ → Refusal → Type 0

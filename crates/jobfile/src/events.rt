@@ -12,27 +12,41 @@ use crate::fault::JobFault;
 use crate::fields;
 use cuts::job::TraceJob;
 use trace::event::Action;
+use wire::frame::Frame;
 use wire::reader::Reader;
 use wire::record;
 use wire::record::Record;
 
-// Process, action and payload of a record.
-fn parts<'a>(found: Record<'a>) -> (u8, Action, &'a [u8])
-    ensures { record_with result.0 result.2.now result.1 ≡ raw_of found.entry }
-{
-    match found {
-        Record::Local { process, payload } => (process, Action::Local, payload),
-        Record::Send {
+// What a record says happened: at which process, what, and with which payload.
+struct Happening<'a> {
+    process: u8,
+    action: Action,
+    payload: &'a [u8],
+}
+
+impl<'a> From<Record<'a>> for Happening<'a> {
+    ghost from_gives = { λ found happening. record_with happening.process happening.payload.now happening.action ≡ raw_of found };
+
+    fn from(found: Record<'a>) -> Happening<'a> {
+        let (process, action, payload) = match found {
+            Record::Local { process, payload } => (process, Action::Local, payload),
+            Record::Send {
+                process,
+                to,
+                message,
+                payload,
+            } => (process, Action::Send { to, message }, payload),
+            Record::Receive {
+                process,
+                message,
+                payload,
+            } => (process, Action::Receive { message }, payload),
+        };
+        Happening {
             process,
-            to,
-            message,
+            action,
             payload,
-        } => (process, Action::Send { to, message }, payload),
-        Record::Receive {
-            process,
-            message,
-            payload,
-        } => (process, Action::Receive { message }, payload),
+        }
     }
 }
 
@@ -41,14 +55,15 @@ fn event(reader: &mut Reader<'_>, job: &mut TraceJob) -> Result<(), JobFault>
     requires { length (happened job.old) < longest }
     ensures { MatchResult result (λ _. EventRead reader.old reader.new job.old job.new) (λ e. EventBroken (processes job.old) (width_of job.old.wish) reader.old.total (happened job.old) reader.old.rest.now (job_row e)) }
 {
-    let start = reader.position();
+    let message = JobFault::Message(reader.position());
     let n = job.trace().processes() as u8;
-    let record = record::event(reader, n, job.wish().width())?;
-    let (process, action, payload) = parts(record);
-    match job.push(process, action, payload) {
-        Ok(()) => Ok(()),
-        Err(_) => Err(JobFault::Message(start)),
-    }
+    let found = record::event(reader, n, job.wish().width())?;
+    let Happening {
+        process,
+        action,
+        payload,
+    } = Happening::from(found);
+    job.push(process, action, payload).map_err(|_| message)
 }
 
 fn event_list(reader: &mut Reader<'_>, count: u16, job: &mut TraceJob) -> Result<(), JobFault>
@@ -63,14 +78,17 @@ fn event_list(reader: &mut Reader<'_>, count: u16, job: &mut TraceJob) -> Result
 }
 
 // The body of a trace job.
-pub(crate) fn trace_body(reader: &mut Reader<'_>, n: u8, job: &mut TraceJob) -> Result<(), JobFault>
-    requires { n ≤ 16 }
-    ensures { MatchResult result (λ _. TraceRead n reader.old reader.new job.new) (λ e. TraceBroken n reader.old.total reader.old.rest.now (job_row e)) }
+pub(crate) fn trace_body(
+    reader: &mut Reader<'_>,
+    frame: Frame,
+    job: &mut TraceJob,
+) -> Result<(), JobFault>
+    ensures { MatchResult result (λ _. TraceRead frame.n reader.old reader.new job.new) (λ e. TraceBroken frame.n reader.old.total reader.old.rest.now (job_row e)) }
 {
     let kind = fields::payload_letter(reader)?;
-    let watch = fields::watch(reader, n)?;
+    let watch = fields::watch(reader, frame)?;
     let wish = fields::wish(reader, kind)?;
-    let _ = job.begin(n as usize, watch, wish);
+    let _ = job.begin(frame.n as usize, watch, wish);
     let channels = fields::channel_count(reader)?;
     fields::channel_list(reader, channels, job)?;
     let events = fields::event_count(reader)?;

@@ -2,12 +2,12 @@ ghost use Rattle.std.specs.Prelude.{◌≡◌};
 ghost use Rattle.jobfile.specs.declared.fault.JobFault.TheVariants.{Frame, Record};
 ghost use Rattle.jobfile.specs.Fields.{job_row};
 
-use refusal::{Layer, Refusal};
+use refusal::{Layer, Refusal, Rule};
 use wire::frame::FrameFault;
 use wire::record::RecordFault;
 
 // What the job reader refuses: the faults of the layers below it, and its own with their position.
-#[derive(Clone, Copy)]
+#[derive(Clone, Copy, Debug, PartialEq, Eq)]
 pub enum JobFault {
     Frame(FrameFault),
     Record(RecordFault),
@@ -32,20 +32,20 @@ impl From<RecordFault> for JobFault {
     }
 }
 
-impl JobFault {
-    // Its row of the table of refusals. The faults of the layers below go up as they are.
-    pub fn row(self) -> Refusal
-        ensures { result ≡ job_row self }
-    {
-        let (number, position) = match self {
-            JobFault::Frame(fault) => return fault.row(),
-            JobFault::Record(fault) => return fault.row(),
-            JobFault::Missing(position) => (2, position),
-            JobFault::Field(position) => (7, position),
-            JobFault::Message(position) => (9, position),
+// Its row of the table of refusals. The faults of the layers below go up as they are.
+impl From<JobFault> for Refusal {
+    ghost from_gives = { λ fault refusal. refusal ≡ job_row fault };
+
+    fn from(fault: JobFault) -> Refusal {
+        let (rule, position) = match fault {
+            JobFault::Frame(fault) => return Refusal::from(fault),
+            JobFault::Record(fault) => return Refusal::from(fault),
+            JobFault::Missing(position) => (Rule::Missing, position),
+            JobFault::Field(position) => (Rule::Field, position),
+            JobFault::Message(position) => (Rule::Message, position),
         };
         Refusal {
-            number,
+            rule,
             position,
             layer: Layer::Job,
         }

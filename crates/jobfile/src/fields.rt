@@ -1,25 +1,24 @@
 ghost use Rattle.std.specs.Prelude.{◌≡◌, ℕ, ◌^◌, ◌<◌, ◌≤◌, [], length, MatchResult, slice_index};
-ghost use Rattle.trace.specs.Events.{longest};
+ghost use Rattle.std.specs.List.{AllByRecursion};
+ghost use Rattle.refusal.specs.declared.Layer.TheVariants.{Job};
+ghost use Rattle.refusal.specs.declared.Rule.TheVariants as rule;
+ghost use Rattle.refusal.specs.Table.{row};
 ghost use Rattle.payload.specs.Kinds.{of_width};
+ghost use Rattle.trace.specs.Events.{longest};
 ghost use Rattle.cuts.specs.Jobs.{processes, listed};
 ghost use Rattle.wire.specs.Bytes.{word2};
-ghost use Rattle.refusal.specs.declared.Layer.TheVariants.{Job};
-ghost use Rattle.wire.specs.Parts.{row, Reads, Each, FieldBroken};
+ghost use Rattle.wire.specs.Parts.{Reads, Each, FieldBroken};
 ghost use Rattle.jobfile.specs.Forms.{wish_bytes, channel_bytes, ChannelOk};
 ghost use Rattle.jobfile.specs.Table.{Byte, byte_of, Word, IsKind, kind_width, WishOf, ChannelBroken};
-ghost use Rattle.std.specs.List.{AllByRecursion};
-ghost use Rattle.jobfile.specs.Fields.{job_row, letter_of_kind, ChannelRead, ChannelsRead, PayloadRead};
+ghost use Rattle.jobfile.specs.Fields.{job_row, letter_of_kind, BytesRead, ChannelRead, ChannelsRead, PayloadRead};
 
 use crate::fault::JobFault;
-use cuts::job::TraceJob;
+use cuts::job::{LISTED, TraceJob};
 use payload::kinds::{Code, Payload, Scan};
 use payload::wish::Wish;
+use trace::trace::LONGEST;
+use wire::frame::Frame;
 use wire::reader::Reader;
-
-// The most channels, and the most events.
-const CHANNELS: u8 = 8;
-
-const EVENTS: u16 = 1_024;
 
 // A kind of payload, before its wish is read.
 #[derive(Clone, Copy)]
@@ -28,47 +27,35 @@ pub(crate) enum Kind {
     Scan,
 }
 
-fn byte(reader: &mut Reader<'_>) -> Result<u8, JobFault>
-    ensures { Reads Byte byte_of (FieldBroken 1 Byte byte_of (λ _. Unit {0})) (λ v. v) job_row reader.old result reader.new }
+// The bytes of a field.
+fn bytes<const N: usize>(reader: &mut Reader<'_>) -> Result<[u8; N], JobFault>
+    ensures { BytesRead N reader.old result reader.new }
 {
-    let Some(field) = reader.take(1) else {
-        return Err(JobFault::Missing(reader.total()));
-    };
-    Ok(field[0])
-}
-
-fn word(reader: &mut Reader<'_>) -> Result<u16, JobFault>
-    ensures { Reads Word word2 (FieldBroken 2 Word word2 (λ _. Unit {0})) (λ v. v) job_row reader.old result reader.new }
-{
-    let Some(field) = reader.take(2) else {
-        return Err(JobFault::Missing(reader.total()));
-    };
-    Ok(u16::from_be_bytes([field[0], field[1]]))
+    let missing = JobFault::Missing(reader.total());
+    reader.take_array::<N>().ok_or(missing)
 }
 
 // The payload letter.
 pub(crate) fn payload_letter(reader: &mut Reader<'_>) -> Result<Kind, JobFault>
     ensures { Reads (λ v. Byte v × IsKind v) byte_of (FieldBroken 1 Byte byte_of IsKind) letter_of_kind job_row reader.old result reader.new }
 {
-    let start = reader.position();
-    match char::from(byte(reader)?) {
+    let range = JobFault::Field(reader.position());
+    let [letter] = bytes::<1>(reader)?;
+    match char::from(letter) {
         'K' => Ok(Kind::Code),
         'C' => Ok(Kind::Scan),
-        _ => Err(JobFault::Field(start)),
+        _ => Err(range),
     }
 }
 
 // The watch bits: none at n or above.
-pub(crate) fn watch(reader: &mut Reader<'_>, n: u8) -> Result<u16, JobFault>
-    requires { n ≤ 16 }
-    ensures { Reads (λ v. Word v × (v < 2 ^ n)) word2 (FieldBroken 2 Word word2 (λ v. v < 2 ^ n)) (λ v. v) job_row reader.old result reader.new }
+pub(crate) fn watch(reader: &mut Reader<'_>, frame: Frame) -> Result<u16, JobFault>
+    ensures { Reads (λ v. Word v × (v < 2 ^ frame.n)) word2 (FieldBroken 2 Word word2 (λ v. v < 2 ^ frame.n)) (λ v. v) job_row reader.old result reader.new }
 {
-    let start = reader.position();
-    let watch = word(reader)?;
-    if n < 16 && watch >> n != 0 {
-        return Err(JobFault::Field(start));
-    }
-    Ok(watch)
+    let range = JobFault::Field(reader.position());
+    let watch = u16::from_be_bytes(bytes::<2>(reader)?);
+    let below = u32::from(watch) >> frame.n == 0;
+    below.then_some(watch).ok_or(range)
 }
 
 // The wish in a part of the file. What a function is handed is known to hold bytes, and this passes that on.
@@ -81,15 +68,11 @@ fn wish_in<P: Payload>(part: &[u8]) -> Option<P::Wish>
 
 // The wish of one kind: as many bytes as a payload of it has.
 fn wish_of<P: Payload>(reader: &mut Reader<'_>) -> Result<P::Wish, JobFault>
-    ensures { MatchResult result (λ w. PayloadRead P.wide P.stated w reader.old reader.new) (λ e. (length reader.old.rest.now < P.wide) × (job_row e ≡ row 2 reader.old.total Job)) }
+    ensures { MatchResult result (λ w. PayloadRead P.wide P.stated w reader.old reader.new) (λ e. (length reader.old.rest.now < P.wide) × (job_row e ≡ row rule.Missing reader.old.total Job)) }
 {
-    let Some(part) = reader.take(P::size()) else {
-        return Err(JobFault::Missing(reader.total()));
-    };
-    match wish_in::<P>(part) {
-        Some(wish) => Ok(wish),
-        None => Err(JobFault::Missing(reader.total())),
-    }
+    let missing = JobFault::Missing(reader.total());
+    let part = reader.take(P::size()).ok_or(missing)?;
+    wish_in::<P>(part).ok_or(missing)
 }
 
 pub(crate) fn wish(reader: &mut Reader<'_>, kind: Kind) -> Result<Wish, JobFault>
@@ -105,12 +88,10 @@ pub(crate) fn wish(reader: &mut Reader<'_>, kind: Kind) -> Result<Wish, JobFault
 pub(crate) fn channel_count(reader: &mut Reader<'_>) -> Result<u8, JobFault>
     ensures { Reads (λ v. Byte v × (v ≤ 8)) byte_of (FieldBroken 1 Byte byte_of (λ v. v ≤ 8)) (λ v. v) job_row reader.old result reader.new }
 {
-    let start = reader.position();
-    let count = byte(reader)?;
-    if count > CHANNELS {
-        return Err(JobFault::Field(start));
-    }
-    Ok(count)
+    let range = JobFault::Field(reader.position());
+    let [count] = bytes::<1>(reader)?;
+    let few = count as usize <= LISTED;
+    few.then_some(count).ok_or(range)
 }
 
 // One channel: its sender, and then its receiver.
@@ -118,17 +99,14 @@ fn channel(reader: &mut Reader<'_>, job: &mut TraceJob) -> Result<(), JobFault>
     requires { length (listed job.old) < 8 }
     ensures { MatchResult result (λ _. ChannelRead reader.old reader.new job.old job.new) (λ e. ChannelBroken (processes job.old) reader.old.total reader.old.rest.now (job_row e)) }
 {
-    let start = reader.position();
-    let sender = byte(reader)?;
+    let range = JobFault::Field(reader.position());
+    let [sender] = bytes::<1>(reader)?;
     if sender as usize >= job.trace().processes() {
-        return Err(JobFault::Field(start));
+        return Err(range);
     }
-    let start = reader.position();
-    let receiver = byte(reader)?;
-    match job.add_channel(sender, receiver) {
-        Ok(()) => Ok(()),
-        Err(_) => Err(JobFault::Field(start)),
-    }
+    let range = JobFault::Field(reader.position());
+    let [receiver] = bytes::<1>(reader)?;
+    job.add_channel(sender, receiver).map_err(|_| range)
 }
 
 pub(crate) fn channel_list(
@@ -150,10 +128,8 @@ pub(crate) fn channel_list(
 pub(crate) fn event_count(reader: &mut Reader<'_>) -> Result<u16, JobFault>
     ensures { Reads (λ v. Word v × (v ≤ longest)) word2 (FieldBroken 2 Word word2 (λ v. v ≤ longest)) (λ v. v) job_row reader.old result reader.new }
 {
-    let start = reader.position();
-    let count = word(reader)?;
-    if count > EVENTS {
-        return Err(JobFault::Field(start));
-    }
-    Ok(count)
+    let range = JobFault::Field(reader.position());
+    let count = u16::from_be_bytes(bytes::<2>(reader)?);
+    let few = count as usize <= LONGEST;
+    few.then_some(count).ok_or(range)
 }

@@ -1,52 +1,52 @@
 -- What the functions that read a file need: its end, a record behind its length, and a row. Assumes nothing.
-use Rattle.std.proofs.Common.{◌≡◌, ℕ, ◌-◌, ◌<◌, ◌≤◌, min, ◌⊎◌, List, [], ◌∷◌, ◌++◌, length, get_or, drop, sym, ap, ◌∙◌, ⊎_elim, arith}
-use Rattle.std.proofs.lemmas.List.{drop_all, nil_from_length}
-use Rattle.std.proofs.lemmas.Bool.{cases_lt}
+use Rattle.std.proofs.Common.{◌≡◌, ℕ, ◌-◌, ◌<◌, ◌≤◌, List, [], ◌∷◌, ◌++◌, length, get_or, take, drop, sym, refl, ap, ◌∙◌, arith, Option, None, Some, Result, Err, MatchOption}
+use Rattle.std.specs.Borrow.{Bor}
+use Rattle.std.specs.Option.{ok_or}
+use Rattle.std.proofs.lemmas.List.{take_all, nil_from_length}
 use Rattle.refusal.specs.declared.Layer.TheVariants.{Frame, Record}
-use Rattle.wire.specs.Parts.{row}
+use Rattle.refusal.specs.declared.Rule.TheVariants as rule
+use Rattle.refusal.specs.Table.{row}
+use Rattle.wire.specs.declared.reader.Reader.{Reader}
+use Rattle.wire.specs.declared.record.RecordFault.TheVariants as RecordFault
+use Rattle.wire.specs.Parts.{Reads}
 use Rattle.wire.specs.Frames.{Behind, behind}
-use Rattle.wire.specs.Records.{Raw, local, send, receive, record_bytes, sized_record, OwnRules, RecordBroken, no_length, cut_short, no_event, RowShort, missing}
+use Rattle.wire.specs.Records.{Raw, local, send, receive, record_bytes, sized_record, OwnRules, RecordBroken, record_row, no_length, cut_short, no_event, RowShort, missing}
 
--- to drop more than there is leaves as little as to drop all
-pub drop_least : (k start : ℕ) (s : List ℕ) → k ≡ min start (length s) → drop k s ≡ drop start s
-drop_least k start s least =
-    ⊎_elim
-    (λ (less : start < length s). ap (λ z. drop z s) (omega arith))
-    (λ (all : length s ≤ start). drop_all k s (omega arith) ∙ sym (drop_all start s all))
-    (cases_lt start (length s))
+-- where a value must be there and is not, the fault is that of its absence
+pub absent : {T E : Type 0} (o : Option T) {fault e : E} {r : Result T E} → r ≡ ok_or o fault → r ≡ Err e → (o ≡ None) × (e ≡ fault)
+absent None value err = (refl, grind arith)
+absent (Some x) value err = absurd (grind arith)
 
 -- something is left behind the body, from this place on
-pub behind_at : (total : ℕ) (s : List ℕ) (p : ℕ) → 0 < length s → p ≡ total - length s → Behind total s (row 11 p Frame)
+pub behind_at : (total : ℕ) (s : List ℕ) (p : ℕ) → 0 < length s → p ≡ total - length s → Behind total s (row rule.Behind p Frame)
 behind_at total s p some at = rw at (behind some)
 
 -- so many bytes x were taken from s, and t is left
 abbrev pub Taken : List ℕ → ℕ → List ℕ → List ℕ → Type 0
 Taken s count x t = (length x ≡ count) × (s ≡ x ++ t)
 
--- one byte, and two
+-- one byte
 one_byte : (s : List ℕ) → length s ≡ 1 → s ≡ get_or s 0 0 ∷ []
 one_byte [] e = absurd (omega arith)
 one_byte (x ∷ s) e = ap (◌∷◌ x) (nil_from_length s (omega arith))
-
-two_bytes : (s : List ℕ) → length s ≡ 2 → s ≡ get_or s 0 0 ∷ get_or s 1 0 ∷ []
-two_bytes [] e = absurd (omega arith)
-two_bytes (x ∷ s) e = ap (◌∷◌ x) (one_byte s (omega arith))
 
 -- the taken byte stands first
 byte_first : (s size t : List ℕ) → Taken s 1 size t → s ≡ get_or size 0 0 ∷ t
 byte_first s size t taken = taken.1 ∙ ap (λ z. z ++ t) (one_byte size taken.0)
 
--- and so do a process and a letter
-pub headed_by : (body head rest : List ℕ) (letter : ℕ) → Taken body 2 head rest → letter ≡ get_or head 1 0 → body ≡ get_or head 0 0 ∷ letter ∷ rest
-headed_by body head rest letter taken at = taken.1 ∙ ap (λ z. z ++ rest) (two_bytes head taken.0) ∙ ap (λ z. get_or head 0 0 ∷ z ∷ rest) (sym at)
+-- a body begins with a process and a letter
+pub headed_by : (body : List ℕ) (letter : ℕ) → 2 ≤ length body → letter ≡ get_or body 1 0 → body ≡ get_or body 0 0 ∷ letter ∷ take (length body - 2) (drop 2 body)
+headed_by [] letter long at = absurd (omega arith)
+headed_by (x ∷ []) letter long at = absurd (omega arith)
+headed_by (x ∷ y ∷ s) letter long at = rw at (ap (λ z. x ∷ y ∷ z) (sym (take_all (length (x ∷ y ∷ s) - 2) s (omega arith))))
 
 -- nothing is left for the length of a record
-pub no_length_at : (total n width : ℕ) (s : List ℕ) (p : ℕ) → length s < 1 → p ≡ total → RecordBroken total n width s (row 2 p Record)
+pub no_length_at : (total n width : ℕ) (s : List ℕ) (p : ℕ) → length s < 1 → p ≡ total → RecordBroken total n width s (row rule.Missing p Record)
 no_length_at total n width s p short at = rw at (no_length (omega arith))
 
 module _ (s size t : List ℕ) (one : Taken s 1 size t) where
   -- less is left than the record's length says
-  pub cut_short_at : (total n width p : ℕ) → length t < get_or size 0 0 → p ≡ total → RecordBroken total n width s (row 2 p Record)
+  pub cut_short_at : (total n width p : ℕ) → length t < get_or size 0 0 → p ≡ total → RecordBroken total n width s (row rule.Missing p Record)
   cut_short_at total n width p short at = rw at (cut_short (get_or size 0 0) t (byte_first s size t one) short)
 
   module _ (body u : List ℕ) (whole : Taken t (get_or size 0 0) body u) where
@@ -55,25 +55,26 @@ module _ (s size t : List ℕ) (one : Taken s 1 size t) where
     behind_length = byte_first s size t one ∙ ap (λ z. z ∷ t) (sym whole.0) ∙ ap (◌∷◌ (length body)) whole.1
 
     -- it is no event
-    pub no_event_at : (total n width p : ℕ) → p ≡ total - length s → ((raw : Raw) → OwnRules n width raw → body ≡ record_bytes raw → ⊥) → RecordBroken total n width s (row 8 p Record)
+    pub no_event_at : (total n width p : ℕ) → p ≡ total - length s → ((raw : Raw) → OwnRules n width raw → body ≡ record_bytes raw → ⊥) → RecordBroken total n width s (row rule.Event p Record)
     no_event_at total n width p at none = rw at (no_event body u behind_length none)
 
     -- it is this event
     pub event_at : (raw : Raw) → body ≡ record_bytes raw → s ≡ sized_record raw ++ u
     event_at raw same = behind_length ∙ ap (λ z. length z ∷ z ++ u) same
 
--- an event's record has two bytes at least, and the first is a process of the n
-process_first : (n width : ℕ) (raw : Raw) → OwnRules n width raw → (2 ≤ length (record_bytes raw)) × (get_or (record_bytes raw) 0 0 < n)
-process_first n width (local p x) own = omega arith
-process_first n width (send p to m x) own = omega arith
-process_first n width (receive p m x) own = omega arith
-
--- so what is shorter, or begins otherwise, is none
-pub not_an_event : (n width : ℕ) (body : List ℕ) → (length body < 2) ⊎ (n ≤ get_or body 0 0) → (raw : Raw) → OwnRules n width raw → body ≡ record_bytes raw → ⊥
-not_an_event n width body bad raw own is =
-    let first = process_first n width raw own in
-    omega (arith, ap length is, ap (λ z. get_or z 0 0) is)
+-- an event's record has a process and a letter, so what is shorter is none
+pub too_short : (n width : ℕ) (body : List ℕ) → length body < 2 → (raw : Raw) → OwnRules n width raw → body ≡ record_bytes raw → ⊥
+too_short n width body short (local p x) own is = omega (arith, ap length is)
+too_short n width body short (send p to m x) own is = omega (arith, ap length is)
+too_short n width body short (receive p m x) own is = omega (arith, ap length is)
 
 -- less is left than a row's bytes
-pub row_short_at : (total n : ℕ) (s : List ℕ) (p : ℕ) → length s < n → p ≡ total → RowShort total n s (row 2 p Record)
+pub row_short_at : (total n : ℕ) (s : List ℕ) (p : ℕ) → length s < n → p ≡ total → RowShort total n s (row rule.Missing p Record)
 row_short_at total n s p short at = rw at (missing short)
+
+-- a row is read if its bytes are there
+pub row_read : (n : ℕ) (before left : Reader) (taken : Option (Bor (List ℕ))) (p : ℕ) →
+    MatchOption taken ((length before.rest.now < n) × (left ≡ before)) (λ x. Taken before.rest.now n x.now left.rest.now) → left.total ≡ before.total → p ≡ before.total →
+    Reads (λ list. length list ≡ n) (λ list. list) (λ total. RowShort total n) (λ x. x.now) record_row before (ok_or taken (RecordFault.Missing p)) left
+row_read n before left None p known same at = row_short_at before.total n before.rest.now p known.0 at
+row_read n before left (Some x) p known same at = (known.0, known.1, same)

@@ -2,14 +2,11 @@
 -- of the file from the part's first byte on, and answers with a row of the table. Assumes nothing.
 use Rattle.std.specs.Prelude.{◌≡◌, ℕ, ◌-◌, ◌<◌, List, ◌++◌, length, Result, MatchResult}
 use Rattle.std.specs.List.{flat_map}
-use Rattle.refusal.specs.declared.Layer.{Layer}
 use Rattle.refusal.specs.declared.Layer.TheVariants.{Job}
 use Rattle.refusal.specs.declared.Refusal.{Refusal}
+use Rattle.refusal.specs.declared.Rule.TheVariants as rule
+use Rattle.refusal.specs.Table.{row}
 use Rattle.wire.specs.declared.reader.Reader.{Reader}
-
--- a row of the table of refusals
-abbrev pub row : ℕ → ℕ → Layer → Refusal
-row number position layer = record { number = number; position = position; layer = layer }
 
 -- checks in their order: this one is broken and its row is given, or it is kept and a later one is broken
 pub data Checks (Kept : Type 0) (r : Refusal) (Later : Refusal → Type 0) : Refusal → Type 0 where
@@ -27,8 +24,8 @@ pub data Each {A : Type 0} (count : ℕ) (Good : List A → Type 0) (bytes : A �
 
 -- a field outside records: one of its bytes is missing, or they are those of a value out of range
 pub data FieldBroken {A : Type 0} (width : ℕ) (Fits : A → Type 0) (bytes : A → List ℕ) (Range : A → Type 0) (total : ℕ) (s : List ℕ) : Refusal → Type 0 where
-  missing : length s < width → FieldBroken width Fits bytes Range total s (row 2 total Job)
-  range : (a : A) (t : List ℕ) → Fits a → s ≡ bytes a ++ t → (Range a → ⊥) → FieldBroken width Fits bytes Range total s (row 7 (total - length s) Job)
+  missing : length s < width → FieldBroken width Fits bytes Range total s (row rule.Missing total Job)
+  range : (a : A) (t : List ℕ) → Fits a → s ≡ bytes a ++ t → (Range a → ⊥) → FieldBroken width Fits bytes Range total s (row rule.Field (total - length s) Job)
 
 -- a part is read: the bytes of a good value stood there, and what follows them is left; or it is broken
 abbrev pub Reads : {V X A : Type 0} → (A → Type 0) → (A → List ℕ) → (ℕ → List ℕ → Refusal → Type 0) → (V → A) → (X → Refusal) → Reader → Result V X → Reader → Type 0

@@ -2,12 +2,13 @@
 use Rattle.std.specs.Prelude.{◌≡◌, ℕ, ◌-◌, ◌<◌, List, ◌∷◌, ◌++◌, length, ◌≢◌}
 use Rattle.refusal.specs.declared.Layer.TheVariants.{Record}
 use Rattle.refusal.specs.declared.Refusal.{Refusal}
+use Rattle.refusal.specs.declared.Rule.TheVariants as rule
+use Rattle.refusal.specs.Table.{row}
 use Rattle.wire.specs.declared.record.Record.{Record as TheRecord}
 use Rattle.wire.specs.declared.record.Record.TheVariants as records
 use Rattle.wire.specs.declared.record.RecordFault.{RecordFault}
 use Rattle.wire.specs.declared.record.RecordFault.TheVariants as fault
 use Rattle.wire.specs.Bytes.{word2}
-use Rattle.wire.specs.Parts.{row}
 
 -- what an event's record says
 pub data Raw : Type 0 where
@@ -41,16 +42,16 @@ OwnRules n width (receive p m x) = (p < n) × (m < 65536) × (length x ≡ width
 
 -- a record is broken: its length is missing, or the record ends beyond the file, or it is none that keeps its own rules
 pub data RecordBroken (total n width : ℕ) (s : List ℕ) : Refusal → Type 0 where
-  no_length : length s ≡ 0 → RecordBroken total n width s (row 2 total Record)
-  cut_short : (size : ℕ) (t : List ℕ) → s ≡ size ∷ t → length t < size → RecordBroken total n width s (row 2 total Record)
-  no_event : (body t : List ℕ) → s ≡ sized body ++ t → ((raw : Raw) → OwnRules n width raw → body ≢ record_bytes raw) → RecordBroken total n width s (row 8 (total - length s) Record)
+  no_length : length s ≡ 0 → RecordBroken total n width s (row rule.Missing total Record)
+  cut_short : (size : ℕ) (t : List ℕ) → s ≡ size ∷ t → length t < size → RecordBroken total n width s (row rule.Missing total Record)
+  no_event : (body t : List ℕ) → s ≡ sized body ++ t → ((raw : Raw) → OwnRules n width raw → body ≢ record_bytes raw) → RecordBroken total n width s (row rule.Event (total - length s) Record)
 
 -- a row of n bytes is not there
 pub data RowShort (total n : ℕ) (s : List ℕ) : Refusal → Type 0 where
-  missing : length s < n → RowShort total n s (row 2 total Record)
+  missing : length s < n → RowShort total n s (row rule.Missing total Record)
 
 -- each fault of a record as its row
 abbrev pub record_row : RecordFault → Refusal
-record_row (fault.Missing p) = row 2 p Record
-record_row (fault.Event p) = row 8 p Record
-record_row (fault.Row p) = row 10 p Record
+record_row (fault.Missing p) = row rule.Missing p Record
+record_row (fault.Event p) = row rule.Event p Record
+record_row (fault.Row p) = row rule.Row p Record

@@ -1,6 +1,7 @@
 ghost use Rattle.std.specs.Prelude.{◌≡◌, ◌-◌, ◌<◌, ◌≤◌, ◌++◌, length, drop, MatchOption, ◌==◌};
 
-// What is left of a file of `total` bytes.
+// What is left of a file of `total` bytes. It is copied, and what has a lifetime and a model can't be, so contracts name
+// its fields.
 #[derive(Clone, Copy)]
 pub struct Reader<'a> {
     total: usize,
@@ -14,7 +15,7 @@ impl<'a> Reader<'a> {
         ensures total { result.total ≡ length file.now }
         ensures rest { result.rest.now ≡ drop start file.now }
     {
-        let (_, rest) = file.split_at(start.min(file.len()));
+        let rest = &file[start.min(file.len())..];
         Reader {
             total: file.len(),
             rest,
@@ -46,11 +47,18 @@ impl<'a> Reader<'a> {
         ensures total { self.new.total ≡ self.old.total }
         ensures cases { MatchOption result ((length self.old.rest.now < count) × (self.new ≡ self.old)) (λ x. (length x.now ≡ count) × (self.old.rest.now ≡ x.now ++ self.new.rest.now)) }
     {
-        if self.rest.len() < count {
-            return None;
-        }
-        let (front, rest) = self.rest.split_at(count);
+        let (front, rest) = self.rest.split_at_checked(count)?;
         self.rest = rest;
         Some(front)
+    }
+
+    // The next bytes as an array, if there are so many; else nothing is taken.
+    pub fn take_array<const N: usize>(&mut self) -> Option<[u8; N]>
+        ensures total { self.new.total ≡ self.old.total }
+        ensures cases { MatchOption result ((length self.old.rest.now < N) × (self.new ≡ self.old)) (λ x. (length x ≡ N) × (self.old.rest.now ≡ x ++ self.new.rest.now)) }
+    {
+        let (front, rest) = self.rest.split_first_chunk::<N>()?;
+        self.rest = rest;
+        Some(*front)
     }
 }

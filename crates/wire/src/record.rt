@@ -3,28 +3,28 @@ ghost use Rattle.wire.specs.Parts.{Reads};
 ghost use Rattle.wire.specs.Records.{Raw, raw_of, record_bytes, sized_record, OwnRules, RecordBroken, RowShort, record_row};
 
 use crate::reader::Reader;
-use refusal::{Layer, Refusal};
+use refusal::{Layer, Refusal, Rule};
 
 // What a record refuses, with the position.
-#[derive(Clone, Copy)]
+#[derive(Clone, Copy, Debug, PartialEq, Eq)]
 pub enum RecordFault {
     Missing(usize),
     Event(usize),
     Row(usize),
 }
 
-impl RecordFault {
-    // Its row of the table of refusals.
-    pub fn row(self) -> Refusal
-        ensures { result ≡ record_row self }
-    {
-        let (number, position) = match self {
-            RecordFault::Missing(position) => (2, position),
-            RecordFault::Event(position) => (8, position),
-            RecordFault::Row(position) => (10, position),
+// Its row of the table of refusals.
+impl From<RecordFault> for Refusal {
+    ghost from_gives = { λ fault refusal. refusal ≡ record_row fault };
+
+    fn from(fault: RecordFault) -> Refusal {
+        let (rule, position) = match fault {
+            RecordFault::Missing(position) => (Rule::Missing, position),
+            RecordFault::Event(position) => (Rule::Event, position),
+            RecordFault::Row(position) => (Rule::Row, position),
         };
         Refusal {
-            number,
+            rule,
             position,
             layer: Layer::Record,
         }
@@ -53,43 +53,40 @@ pub enum Record<'a> {
 
 // The record of a process by its letter and what stands behind that, if these keep the rules.
 fn shaped<'a>(letter: char, process: u8, n: u8, width: usize, rest: &'a [u8]) -> Option<Record<'a>>
-    requires { process < n }
     ensures { MatchOption result ((raw : Raw) → OwnRules n width raw → process ∷ letter ∷ rest.now ≢ record_bytes raw) (λ x. OwnRules n width (raw_of x) × (process ∷ letter ∷ rest.now ≡ record_bytes (raw_of x))) }
 {
+    if process >= n {
+        return None;
+    }
     match letter {
-        'L' => {
-            if rest.len() != width {
-                return None;
-            }
-            Some(Record::Local {
-                process,
-                payload: rest,
-            })
-        }
+        'L' if rest.len() == width => Some(Record::Local {
+            process,
+            payload: rest,
+        }),
         'S' => {
-            if rest.len() < 3 || rest.len() - 3 != width {
+            let [to, high, low, payload @ ..] = rest else {
                 return None;
-            }
-            let (head, payload) = rest.split_at(3);
-            let to = head[0];
-            if to >= n || to == process {
+            };
+            if *to >= n || *to == process || payload.len() != width {
                 return None;
             }
             Some(Record::Send {
                 process,
-                to,
-                message: u16::from_be_bytes([head[1], head[2]]),
+                to: *to,
+                message: u16::from_be_bytes([*high, *low]),
                 payload,
             })
         }
         'R' => {
-            if rest.len() < 2 || rest.len() - 2 != width {
+            let [high, low, payload @ ..] = rest else {
+                return None;
+            };
+            if payload.len() != width {
                 return None;
             }
-            let (head, payload) = rest.split_at(2);
             Some(Record::Receive {
                 process,
-                message: u16::from_be_bytes([head[0], head[1]]),
+                message: u16::from_be_bytes([*high, *low]),
                 payload,
             })
         }
@@ -102,25 +99,17 @@ pub fn event<'a>(reader: &mut Reader<'a>, n: u8, width: usize) -> Result<Record<
     ensures reads { Reads (OwnRules n width) sized_record (λ total. RecordBroken total n width) raw_of record_row reader.old result reader.new }
     ensures kept { OnErr result (reader.new ≡ reader.old) }
 {
-    let start = reader.position();
+    let missing = RecordFault::Missing(reader.total());
+    let broken = RecordFault::Event(reader.position());
     let mut ahead = *reader;
-    let Some(size) = ahead.take(1) else {
-        return Err(RecordFault::Missing(reader.total()));
+    let [size] = ahead.take_array::<1>().ok_or(missing)?;
+    let body = ahead.take(size as usize).ok_or(missing)?;
+    let [process, letter, rest @ ..] = body else {
+        return Err(broken);
     };
-    let Some(body) = ahead.take(size[0] as usize) else {
-        return Err(RecordFault::Missing(reader.total()));
-    };
-    if body.len() < 2 || body[0] >= n {
-        return Err(RecordFault::Event(start));
-    }
-    let (head, rest) = body.split_at(2);
-    match shaped(char::from(head[1]), head[0], n, width, rest) {
-        Some(record) => {
-            *reader = ahead;
-            Ok(record)
-        }
-        None => Err(RecordFault::Event(start)),
-    }
+    let record = shaped(char::from(*letter), *process, n, width, rest).ok_or(broken)?;
+    *reader = ahead;
+    Ok(record)
 }
 
 // The n bytes of a row, whatever they are. A refusal leaves the reader where it is.
@@ -128,8 +117,6 @@ pub fn row<'a>(reader: &mut Reader<'a>, n: u8) -> Result<&'a [u8], RecordFault>
     ensures reads { Reads (λ list. length list ≡ n) (λ list. list) (λ total. RowShort total n) (λ x. x.now) record_row reader.old result reader.new }
     ensures kept { OnErr result (reader.new ≡ reader.old) }
 {
-    match reader.take(n as usize) {
-        Some(row) => Ok(row),
-        None => Err(RecordFault::Missing(reader.total())),
-    }
+    let missing = RecordFault::Missing(reader.total());
+    reader.take(n as usize).ok_or(missing)
 }

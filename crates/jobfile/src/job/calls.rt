@@ -1,15 +1,14 @@
 ghost use Rattle.std.specs.Prelude.{◌≡◌, IfOk};
-ghost use Rattle.jobfile.specs.Jobs.{Blank, places_of, Serves};
+ghost use Rattle.jobfile.specs.Jobs.{Blank, letter_of_job, places_of, Serves};
 
 use crate::job::Job;
-use crate::job::read::clear;
 use cuts::conditions::{Channels, Consistent, Watched, condition};
 use cuts::job::TraceJob;
 use gates::gates::Gates;
-use lattice::lent::Lent;
 use lattice::pair::Pair;
+use payload::wish::Wish;
 use std::alloc::{AllocError, Global};
-use std::marker::PhantomData;
+use wire::frame::JobKind;
 
 impl Job {
     // A blank job. All memory that a job can come to need is asked for here.
@@ -18,7 +17,7 @@ impl Job {
     {
         let trace = TraceJob::new(heap)?;
         Ok(Job {
-            letter: '-',
+            kind: None,
             trace,
             gates: Gates::none(),
         })
@@ -28,24 +27,33 @@ impl Job {
     pub fn clear(&mut self)
         ensures { Blank self.new }
     {
-        clear(&mut self.trace, &mut self.gates);
-        self.letter = '-';
+        let _ = self.trace.begin(0, 0, Wish::Code(0));
+        self.gates = Gates::none();
+        self.kind = None;
     }
 
-    pub fn letter(&self) -> char
-        ensures { result ≡ self.now.letter }
+    // What the job is about: a trace, or gates; a blank job is about nothing.
+    pub fn kind(&self) -> Option<JobKind>
+        ensures { result ≡ self.now.kind }
     {
-        self.letter
+        self.kind
+    }
+
+    // The letter of its kind, and - for a blank job.
+    pub fn letter(&self) -> char
+        ensures { result ≡ letter_of_job self.now }
+    {
+        self.kind.map_or('-', char::from)
     }
 
     // How many places the job is about: its processes, or its vans.
     pub fn places(&self) -> usize
         ensures { result ≡ places_of self.now }
     {
-        match self.letter {
-            'T' => self.trace.trace().processes(),
-            'M' => self.gates.count(),
-            _ => 0,
+        match self.kind {
+            Some(JobKind::Trace) => self.trace.trace().processes(),
+            Some(JobKind::Gates) => self.gates.count(),
+            None => 0,
         }
     }
 
@@ -79,27 +87,19 @@ impl Job {
         Channels { job: &self.trace }
     }
 
-    pub fn gates(&self) -> Lent<&Gates, Gates>
-        ensures { result.lender.now ≡ self.now.gates }
+    pub fn gates(&self) -> &Gates
+        ensures { result.now ≡ self.now.gates }
     {
-        Lent {
-            lender: &self.gates,
-            of: PhantomData,
-        }
+        &self.gates
     }
 
-    // The job's own condition: that of its trace paired with that of its gates. The part that the letter does not name
+    // The job's own condition: that of its trace paired with that of its gates. The part that the kind does not name
     // holds everywhere, so this is the condition of the kind that it names.
-    pub fn condition(
-        &self,
-    ) -> Pair<
-        Pair<Consistent<'_>, Pair<Watched<'_>, Channels<'_>>>,
-        Lent<&Gates, Gates>,
-    >
+    pub fn condition(&self) -> Pair<Pair<Consistent<'_>, Pair<Watched<'_>, Channels<'_>>>, &Gates>
         ensures first { result.first.first.job.now ≡ self.now.trace }
         ensures second { result.first.second.first.job.now ≡ self.now.trace }
         ensures third { result.first.second.second.job.now ≡ self.now.trace }
-        ensures gates { result.second.lender.now ≡ self.now.gates }
+        ensures gates { result.second.now ≡ self.now.gates }
     {
         let first = condition(&self.trace);
         let second = self.gates();

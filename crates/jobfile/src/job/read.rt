@@ -1,72 +1,52 @@
-ghost use Rattle.std.specs.Prelude.{◌≡◌, ◌≤◌, MatchResult};
-ghost use Rattle.gates.specs.Gates.{sides};
-ghost use Rattle.cuts.specs.Jobs as cuts;
-ghost use Rattle.jobfile.specs.Jobs.{Outcome, Whole};
+ghost use Rattle.std.specs.Prelude.{◌≡◌, MatchResult};
+ghost use Rattle.jobfile.specs.Jobs.{letter_of_job, Blank, Outcome, Whole};
 ghost use Rattle.jobfile.specs.Table.{GatesBroken, Broken};
 ghost use Rattle.jobfile.specs.Fields.{job_row, GatesRead};
 
 use crate::fault::JobFault;
 use crate::job::Job;
 use crate::{events, rows};
-use cuts::job::TraceJob;
 use gates::gates::Gates;
-use payload::wish::Wish;
 use refusal::Refusal;
 use wire::frame;
-use wire::frame::{FRAME, FrameFault};
+use wire::frame::{FRAME, Frame, FrameFault, JobKind};
 use wire::reader::Reader;
 
-// Makes both parts of a job blank.
-pub(crate) fn clear(trace: &mut TraceJob, gates: &mut Gates)
-    ensures trace { cuts.Blank trace.new }
-    ensures gates { (sides gates.new).n ≡ 0 }
+// The body of a gates job.
+fn placing(reader: &mut Reader<'_>, frame: Frame, gates: &mut Gates) -> Result<(), JobFault>
+    ensures { MatchResult result (λ _. GatesRead frame.n reader.old reader.new gates.new) (λ e. GatesBroken frame.n reader.old.total reader.old.rest.now (job_row e)) }
 {
-    let _ = trace.begin(0, 0, Wish::Code(0));
-    *gates = Gates::none();
-}
-
-// The body of a gates job of n vans.
-fn placing(reader: &mut Reader<'_>, n: u8, gates: &mut Gates) -> Result<(), JobFault>
-    requires { n ≤ 16 }
-    ensures { MatchResult result (λ _. GatesRead n reader.old reader.new gates.new) (λ e. GatesBroken n reader.old.total reader.old.rest.now (job_row e)) }
-{
-    let Some(plain) = Gates::new(n as usize) else {
-        return Err(JobFault::Frame(FrameFault::Count));
-    };
-    *gates = plain;
+    *gates = Gates::new(frame.n as usize).ok_or(FrameFault::Count)?;
     rows::gates_body(reader, gates)?;
     Ok(())
 }
 
-// Reads the whole file into the part that its letter names.
-fn whole(file: &[u8], trace: &mut TraceJob, gates: &mut Gates) -> Result<char, JobFault>
-    ensures { MatchResult result (λ letter. Whole file.now letter trace.old trace.new gates.old gates.new) (λ e. Broken file.now (job_row e)) }
-{
-    let (letter, n) = frame::read(file)?;
-    let mut reader = Reader::new(file, FRAME);
-    match letter {
-        'T' => events::trace_body(&mut reader, n, trace)?,
-        _ => placing(&mut reader, n, gates)?,
-    }
-    frame::end(&reader)?;
-    Ok(letter)
-}
-
 impl Job {
+    // Reads the whole file into the part that its letter names.
+    fn take(&mut self, file: &[u8]) -> Result<(), JobFault>
+        requires { Blank self.old }
+        ensures { MatchResult result (λ _. Whole file.now (letter_of_job self.new) self.old.trace self.new.trace self.old.gates self.new.gates) (λ e. Broken file.now (job_row e)) }
+    {
+        let frame = frame::read(file)?;
+        let mut reader = Reader::new(file, FRAME);
+        self.kind = Some(frame.kind);
+        match frame.kind {
+            JobKind::Trace => events::trace_body(&mut reader, frame, &mut self.trace)?,
+            JobKind::Gates => placing(&mut reader, frame, &mut self.gates)?,
+        }
+        frame::end(&reader)?;
+        Ok(())
+    }
+
     // Takes the job in a file, whole; or says which rule the file breaks first, and leaves a blank job.
     pub fn read(&mut self, file: &[u8]) -> Result<(), Refusal>
         ensures { Outcome file.now result self.new }
     {
         self.clear();
-        match whole(file, &mut self.trace, &mut self.gates) {
-            Ok(letter) => {
-                self.letter = letter;
-                Ok(())
-            }
-            Err(fault) => {
-                clear(&mut self.trace, &mut self.gates);
-                Err(fault.row())
-            }
+        if let Err(fault) = self.take(file) {
+            self.clear();
+            return Err(Refusal::from(fault));
         }
+        Ok(())
     }
 }

@@ -11,20 +11,20 @@ returns-in_err-kind c =
 pub returns-in_err-watch : goal.returns-in_err-watch
 returns-in_err-watch c =
     let p = err_from_is_err_and c.from_residual-in_err-watch.result c.from_residual-in_err-watch.ensures.1 in
-    let a = one_more (none_yet c.args.n c.args.reader.now) c.payload_letter.new.reader _ c.in_ok-kind.ensures in
+    let a = one_more (none_yet c.args.frame.n c.args.reader.now) c.payload_letter.new.reader _ c.in_ok-kind.ensures in
     rw (p.1, p.2) (a.breaks _ (here c.in_err-watch.ensures))
 
 pub returns-in_err-wish : goal.returns-in_err-wish
 returns-in_err-wish c =
     let p = err_from_is_err_and c.from_residual-in_err-wish.result c.from_residual-in_err-wish.ensures.1 in
-    let a = one_more (none_yet c.args.n c.args.reader.now) c.payload_letter.new.reader _ c.in_ok-kind.ensures in
+    let a = one_more (none_yet c.args.frame.n c.args.reader.now) c.payload_letter.new.reader _ c.in_ok-kind.ensures in
     let b = one_more a c.watch.new.reader _ c.in_ok-watch.ensures in
     rw (p.1, p.2) (b.breaks _ (here c.in_err-wish.ensures))
 
 pub returns-in_err-channels : goal.returns-in_err-channels
 returns-in_err-channels c =
     let p = err_from_is_err_and c.from_residual-in_err-channels.result c.from_residual-in_err-channels.ensures.1 in
-    let a = one_more (none_yet c.args.n c.args.reader.now) c.payload_letter.new.reader _ c.in_ok-kind.ensures in
+    let a = one_more (none_yet c.args.frame.n c.args.reader.now) c.payload_letter.new.reader _ c.in_ok-kind.ensures in
     let b = one_more a c.watch.new.reader _ c.in_ok-watch.ensures in
     let d = one_more b c.wish.new.reader _ c.in_ok-wish.ensures in
     rw (p.1, p.2) (d.breaks _ (here c.in_err-channels.ensures))
@@ -32,17 +32,17 @@ returns-in_err-channels c =
 pub channel_list-requires : goal.channel_list-requires
 channel_list-requires c =
     let new =
-    anew c.args.n c.in_ok-watch.watch c.in_ok-wish.wish c.args.job.now c.begin.new.self c.begin.result
-    c.requires c.in_ok-watch.ensures.0.1 c.begin.ensures in
+    anew c.args.frame.n c.in_ok-watch.watch c.in_ok-wish.wish c.args.job.now c.begin.new.self c.begin.result
+    c.args.frame.few c.in_ok-watch.ensures.0.1 c.begin.ensures in
     (record { job_value = new.channels; count_bound = c.in_ok-channels.ensures.0.1 })
 
 pub returns-in_err-channel_list : goal.returns-in_err-channel_list
 returns-in_err-channel_list c =
     let p = err_from_is_err_and c.from_residual-in_err-channel_list.result c.from_residual-in_err-channel_list.ensures.1 in
     let new =
-    anew c.args.n c.in_ok-watch.watch c.in_ok-wish.wish c.args.job.now c.begin.new.self c.begin.result
-    c.requires c.in_ok-watch.ensures.0.1 c.begin.ensures in
-    let a = one_more (none_yet c.args.n c.args.reader.now) c.payload_letter.new.reader _ c.in_ok-kind.ensures in
+    anew c.args.frame.n c.in_ok-watch.watch c.in_ok-wish.wish c.args.job.now c.begin.new.self c.begin.result
+    c.args.frame.few c.in_ok-watch.ensures.0.1 c.begin.ensures in
+    let a = one_more (none_yet c.args.frame.n c.args.reader.now) c.payload_letter.new.reader _ c.in_ok-kind.ensures in
     let b = one_more a c.watch.new.reader _ c.in_ok-watch.ensures in
     let d = one_more b c.wish.new.reader _ c.in_ok-wish.ensures in
     let e = one_more d c.channel_count.new.reader _ c.in_ok-channels.ensures in
@@ -52,9 +52,9 @@ pub returns-in_err-events : goal.returns-in_err-events
 returns-in_err-events c =
     let p = err_from_is_err_and c.from_residual-in_err-events.result c.from_residual-in_err-events.ensures.1 in
     let new =
-    anew c.args.n c.in_ok-watch.watch c.in_ok-wish.wish c.args.job.now c.begin.new.self c.begin.result
-    c.requires c.in_ok-watch.ensures.0.1 c.begin.ensures in
-    let a = one_more (none_yet c.args.n c.args.reader.now) c.payload_letter.new.reader _ c.in_ok-kind.ensures in
+    anew c.args.frame.n c.in_ok-watch.watch c.in_ok-wish.wish c.args.job.now c.begin.new.self c.begin.result
+    c.args.frame.few c.in_ok-watch.ensures.0.1 c.begin.ensures in
+    let a = one_more (none_yet c.args.frame.n c.args.reader.now) c.payload_letter.new.reader _ c.in_ok-kind.ensures in
     let b = one_more a c.watch.new.reader _ c.in_ok-watch.ensures in
     let d = one_more b c.wish.new.reader _ c.in_ok-wish.ensures in
     let e = one_more d c.channel_count.new.reader _ c.in_ok-channels.ensures in
@@ -66,8 +66,8 @@ returns-in_err-events c =
 pub event_list-requires : goal.event_list-requires
 event_list-requires c =
     let new =
-    anew c.args.n c.in_ok-watch.watch c.in_ok-wish.wish c.args.job.now c.begin.new.self c.begin.result
-    c.requires c.in_ok-watch.ensures.0.1 c.begin.ensures in (record {
+    anew c.args.frame.n c.in_ok-watch.watch c.in_ok-wish.wish c.args.job.now c.begin.new.self c.begin.result
+    c.args.frame.few c.in_ok-watch.ensures.0.1 c.begin.ensures in (record {
       job_value = still_none new c.channel_list.new.job c.in_ok-channels.channels c.channel_count.new.reader c.channel_list.new.reader c.in_ok-channel_list.ensures;
       count_le_longest = c.in_ok-events.ensures.0.1;
     })
@@ -75,9 +75,9 @@ event_list-requires c =
 pub returns : goal.returns
 returns c =
     let new =
-    anew c.args.n c.in_ok-watch.watch c.in_ok-wish.wish c.args.job.now c.begin.new.self c.begin.result
-    c.requires c.in_ok-watch.ensures.0.1 c.begin.ensures in
-    let a = one_more (none_yet c.args.n c.args.reader.now) c.payload_letter.new.reader _ c.in_ok-kind.ensures in
+    anew c.args.frame.n c.in_ok-watch.watch c.in_ok-wish.wish c.args.job.now c.begin.new.self c.begin.result
+    c.args.frame.few c.in_ok-watch.ensures.0.1 c.begin.ensures in
+    let a = one_more (none_yet c.args.frame.n c.args.reader.now) c.payload_letter.new.reader _ c.in_ok-kind.ensures in
     let b = one_more a c.watch.new.reader _ c.in_ok-watch.ensures in
     let d = one_more b c.wish.new.reader _ c.in_ok-wish.ensures in
     let e = one_more d c.channel_count.new.reader _ c.in_ok-channels.ensures in
@@ -85,7 +85,7 @@ returns c =
     one_more e c.channel_list.new.reader _
     (channels_stand new c.channel_list.new.job c.in_ok-channels.channels c.channel_count.new.reader c.channel_list.new.reader c.in_ok-channel_list.ensures) in
     let g = one_more f c.event_count.new.reader _ c.in_ok-events.ensures in
-    body_ends c.args.n _ c.in_ok-watch.watch c.in_ok-channels.channels c.in_ok-events.events c.in_ok-wish.wish
+    body_ends c.args.frame.n _ c.in_ok-watch.watch c.in_ok-channels.channels c.in_ok-events.events c.in_ok-wish.wish
     c.channel_count.new.reader c.channel_list.new.reader c.args.reader.now c.event_count.new.reader c.begin.new.self c.channel_list.new.job new
     c.in_ok-channel_list.ensures c.in_ok-watch.ensures.0.1 c.in_ok-wish.ensures.0.0
     c.in_ok-channels.ensures.0.1 g c.event_list.new.reader c.event_list.new.job c.event_list.result c.event_list.ensures

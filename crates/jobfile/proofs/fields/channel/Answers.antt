@@ -1,34 +1,42 @@
-use Rattle.std.proofs.Common.{ap, arith}
+use Rattle.std.proofs.Common.{◌≡◌, refl, ap, arith, rules}
 use Rattle.std.proofs.lemmas.Result.{err_from_is_err_and}
 use Rattle.trace.specs.declared.trace.Trace.{Trace}
-use Rattle.cuts.specs.Jobs.{processes, listed}
-use Rattle.jobfile.proofs.Listing.{no_sender_byte, bad_sender_at, no_receiver_byte, bad_receiver_at}
+use Rattle.cuts.specs.Jobs.{processes}
+use Rattle.wire.specs.Parts.{here}
+use Rattle.jobfile.specs.Table.{ChannelBroken}
+use Rattle.jobfile.specs.declared.fault.JobFault.TheVariants as JobFault
+use Rattle.jobfile.specs.Fields.{job_row}
+use Rattle.jobfile.proofs.Taking.{first_byte, missing_as, mapped_err}
+use Rattle.jobfile.proofs.Listing.{bad_sender_at, no_receiver_byte, channel_added}
 use Rattle.jobfile.proofs.fields.channel.Goals as goal
 
 pub returns-in_err-sender : goal.returns-in_err-sender
 returns-in_err-sender c =
     let p = err_from_is_err_and c.from_residual.result c.from_residual.ensures.1 in
-    rw (p.1, p.2) (no_sender_byte _ _ _ c.in_err-sender.ensures)
+    let short = c.in_err-sender.ensures in
+    rw (p.1, p.2) (here (missing_as _ _ _ _ _ _ short.0 short.1))
 
 pub returns-then-sender-processes : goal.returns-then-sender-processes
 returns-then-sender-processes c =
     let read = c.in_ok-sender.ensures in
     let n = ap (λ (t : Trace). t.n) c.trace.ensures in
-    bad_sender_at _ _ _ _ _ _ c.position-start.ensures read.0 read.1 (omega arith)
+    bad_sender_at _ _ _ _ _ _ c.position.ensures (read.0.small 0) (first_byte _ _ _ read.1.is _ read.0.long refl) (omega arith)
 
 pub returns-in_err-receiver : goal.returns-in_err-receiver
 returns-in_err-receiver c =
     let p = err_from_is_err_and c.from_residual-in_err-receiver.result c.from_residual-in_err-receiver.ensures.1 in
     let read = c.in_ok-sender.ensures in
+    let short = c.in_err-receiver.ensures in
     let n = ap (λ (t : Trace). t.n) c.trace.ensures in
-    rw (p.1, p.2) (no_receiver_byte _ _ _ _ _ read.0 read.1 (omega arith) _ read.2 c.in_err-receiver.ensures)
+    rw (p.1, p.2) (no_receiver_byte _ _ _ _ _ (read.0.small 0) (first_byte _ _ _ read.1.is _ read.0.long refl) (omega arith) _ read.1.total short.0 short.1)
 
-pub returns-in-Err : goal.returns-in-Err
-returns-in-Err c =
-    let job = c.args.job.now in
-    let left = c.byte.new.reader in
+pub returns : goal.returns
+returns c =
     let read = c.in_ok-sender.ensures in
     let then = c.in_ok-receiver.ensures in
     let n = ap (λ (t : Trace). t.n) c.trace.ensures in
-    bad_receiver_at (processes job) _ _ _ left.rest.now read.0 read.1 (omega arith) _ _ c.byte-2.new.reader.rest.now (listed job) left.total read.2
-    c.position-start-2.ensures then.0 then.1 c.requires c.in-Err.ensures.0
+    mapped_err c.add_channel.result c.map_err.result _ _ _ (λ e. ChannelBroken (processes c.args.job.now) c.args.reader.now.total c.args.reader.now.rest.now (job_row e))
+    (channel_added c.args.reader.now c.bytes.new.reader c.bytes-2.new.reader c.args.job.now c.add_channel.new.self c.add_channel.result _ _ _
+    (read.0.small 0) (first_byte _ _ _ read.1.is _ read.0.long refl) read.1.total (omega arith)
+    (then.0.small 0) (first_byte _ _ _ then.1.is _ then.0.long refl) then.1.total c.position-2.ensures c.requires c.add_channel.ensures)
+    c.map_err.ensures.cases (λ e d broken post. let same : d ≡ JobFault.Field c.position-2.result = search rules in rw same broken)

@@ -1,8 +1,5 @@
-use Rattle.std.proofs.Common.{arith}
-use Rattle.wire.proofs.Reading.{row_short_at}
+use Rattle.wire.proofs.Reading.{row_read}
 use Rattle.wire.proofs.record.row.Goals as goal
 
-pub returns-in-None : goal.returns-in-None
-returns-in-None c =
-    let short = c.in-None.ensures in
-    record { reads = row_short_at _ _ _ _ (omega arith) (omega arith); kept = short.cases.1 }
+pub returns-clause-reads : goal.returns-clause-reads
+returns-clause-reads c = rw c.ok_or.ensures.value (row_read _ _ _ _ _ c.take.ensures.cases c.take.ensures.total c.total.ensures)
