@@ -7,7 +7,7 @@ use Rattle.lattice.specs.declared.verdict.Verdict.TheVariants as verdict
 use Rattle.lattice.specs.Order.{at}
 use Rattle.jobfile.specs.declared.job.Job.{Job}
 use Rattle.jobfile.specs.Forms.{Form, trace, gates, letter_of, size_of}
-use Rattle.jobfile.specs.Jobs.{places_of, Held}
+use Rattle.jobfile.specs.Jobs.{letter_of_job, places_of, Held}
 use Rattle.report.specs.Lines.{first_line, place_line, place_lines, report_text, gate_shown, shown_by}
 use Rattle.report.specs.Earliest.{shown_of}
 
@@ -22,7 +22,7 @@ same_gate n order other p agree =
     let here = agree p in
     grind (arith, nat_tests)
 
-pub same_letter : (j : Job) (form : Form) → Held j form → j.letter ≡ letter_of form
+pub same_letter : (j : Job) (form : Form) → Held j form → letter_of_job j ≡ letter_of form
 same_letter j (trace n watch wish channels events) (held, _) = held.lettered
 same_letter j (gates n vans rows) (held, _) = held.lettered
 
@@ -40,7 +40,7 @@ same_shown j (gates n vans rows) (held, _) v i l =
 
 -- the report of the job is that of the form
 pub same_report : (j : Job) (form : Form) → Held j form → (v : Vector) (word : Verdict) →
-    report_text j.letter (places_of j) (shown_by j v) word ≡ report_text (letter_of form) (size_of form) (shown_of form v) word
+    report_text (letter_of_job j) (places_of j) (shown_by j v) word ≡ report_text (letter_of form) (size_of form) (shown_of form v) word
 same_report j form held v verdict.Open = ap (λ letter. first_line letter verdict.Open) (same_letter j form held)
 same_report j form held v verdict.Found =
     ap₂ (λ letter lines. first_line letter verdict.Found ++ lines) (same_letter j form held)

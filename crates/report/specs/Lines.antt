@@ -12,7 +12,7 @@ use Rattle.lattice.specs.Order.{at}
 use Rattle.lattice.specs.Words.{verdict_word}
 use Rattle.gates.specs.Gates.{sides}
 use Rattle.jobfile.specs.declared.job.Job.{Job as TheJob}
-use Rattle.jobfile.specs.Jobs.{places_of}
+use Rattle.jobfile.specs.Jobs.{letter_of_job, places_of}
 
 -- as in: refused 4 at 1 in frame
 abbrev pub text_of_refusal : Refusal → List ℕ
@@ -43,10 +43,10 @@ gate_shown n order p = cond (nat_lt p n) (decimal (order p)) (45 ∷ [])
 
 -- of a gates job the gate is shown, of every other the height
 abbrev pub shown_by : TheJob → Vector → ℕ → List ℕ
-shown_by j v i = cond (j.letter == 77) (cond (nat_lt i (sides j.gates).n) (gate_shown (sides j.gates).n ((sides j.gates).van i) (at v i)) (45 ∷ [])) (decimal (at v i))
+shown_by j v i = cond (letter_of_job j == 77) (cond (nat_lt i (sides j.gates).n) (gate_shown (sides j.gates).n ((sides j.gates).van i) (at v i)) (45 ∷ [])) (decimal (at v i))
 
 abbrev pub text_of_job : TheJob → Reading → List ℕ
-text_of_job j r = report_text j.letter (places_of j) (shown_by j r.vector) r.verdict
+text_of_job j r = report_text (letter_of_job j) (places_of j) (shown_by j r.vector) r.verdict
 
 -- the text stands at the front of the memory, and what stood behind it is unaltered; or it is longer than the memory, which stays as it was
 abbrev pub Placed : List ℕ → List ℕ → Result ℕ Refusal → List ℕ → Type 0

@@ -11,6 +11,7 @@ use lattice::board::Board;
 use lattice::vector::Vector;
 use lattice::verdict::Verdict;
 use refusal::Refusal;
+use wire::frame::JobKind;
 
 // No line of a refusal and no report has more bytes.
 pub const LONGEST: usize = 512;
@@ -102,8 +103,8 @@ impl Places<'_> {
         ensures short { array_string_len text.new ≤ array_string_len text.old + 20 }
     {
         let height = self.vector.heights()[place];
-        match self.job.letter() {
-            'M' => match self.job.gates_part().gate_at(place, height as usize) {
+        match self.job.kind() {
+            Some(JobKind::Gates) => match self.job.gates_part().gate_at(place, height as usize) {
                 Some(gate) => text.push_str(Buffer::new().format(gate)),
                 None => text.push('-'),
             },
