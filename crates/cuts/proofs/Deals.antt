@@ -1,7 +1,7 @@
 -- What is on one side of a channel, event by event. Assumes nothing.
-use Rattle.std.proofs.Common.{◌≡◌, ℕ, ◌+◌, ◌<◌, ◌≤◌, false, eqb, ltb, List, length, refl, ap, ◌∙◌, ⊎_elim, arith}
+use Rattle.std.proofs.Common.{◌≡◌, ℕ, ◌+◌, ◌<◌, ◌≤◌, Bool, false, ◌&&◌, ◌==◌, eqb, ltb, List, length, refl, sym, ap, ◌∙◌, ⊎_elim, arith}
 use lib.ListN.{get_or-eq_default}
-use Rattle.std.proofs.lemmas.Bool.{cases_lt, le-ltb, and_left}
+use Rattle.std.proofs.lemmas.Bool.{cases_lt, le-ltb, lt-ltb, and_left}
 use Rattle.trace.specs.declared.event.Event.{Event}
 use Rattle.trace.specs.declared.event.Action.TheVariants.{Local}
 use Rattle.trace.specs.Events.{by, does, number, total, nth, source, Sending}
@@ -18,6 +18,10 @@ pub from_nobody : (es : List Event) (m p : ℕ) → ((s : Sending es) → s.mess
 from_nobody es m p none =
     and_left (ltb (source es m) (length es)) (eqb (by es (source es m)) p)
     (⊎_elim (λ (lt : source es m < length es). absurd (none (sender es m lt) refl)) (le-ltb (source es m) (length es)) (cases_lt (source es m) (length es)))
+
+-- and what somebody sent is from its process
+pub from_sender : (es : List Event) (m q e : ℕ) → e < length es → e ≡ source es m → sent_from es m q ≡ (by es e == q)
+from_sender es m q e lt is = ap (λ (b : Bool). b && (by es (source es m) == q)) (lt-ltb (source es m) (length es) (omega arith)) ∙ ap (λ (x : ℕ). by es x == q) (sym is)
 
 asked_local : (es : List Event) (w : Way) (p : ℕ) → asked es w p Local ≡ false
 asked_local es To p = refl

@@ -1,5 +1,10 @@
+pub mod Counting
 pub mod Deals
+pub mod Found
+pub mod Levelling
+pub mod Merging
 pub mod Padding
 pub mod Pushing
+pub mod Searches
 pub mod Shifts
 pub mod SameJob

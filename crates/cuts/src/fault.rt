@@ -1,3 +1,6 @@
+ghost use Rattle.std.specs.Prelude.{◌≡◌};
+ghost use Rattle.cuts.specs.declared.fault.JobFault.TheVariants.{Event};
+
 use trace::event::EventFault;
 
 // Why a part of a trace job is refused.
@@ -17,4 +20,12 @@ pub enum JobFault {
     Payload,
     // the trace refuses the event
     Event(EventFault),
+}
+
+impl From<EventFault> for JobFault {
+    ghost from_gives = { λ e r. r ≡ Event e };
+
+    fn from(fault: EventFault) -> JobFault {
+        JobFault::Event(fault)
+    }
 }

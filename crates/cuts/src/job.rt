@@ -5,10 +5,13 @@ use crate::channel::Channel;
 use payload::wish::Wish;
 use trace::trace::Trace;
 
+mod beyond;
 mod calls;
 mod channels;
 mod consistent;
 mod laws;
+mod lift;
+mod reads;
 mod watched;
 
 // The most channels that are listed.

@@ -1,58 +1,44 @@
 -- The worked examples of vans at gates. Assumes nothing.
-use Rattle.std.proofs.Common.{ℕ, List, [], ◌∷◌, replicate, refl, arith, lit<, lit≤}
+use Rattle.std.proofs.Common.{◌∷◌, replicate, refl, arith, lit<, lit≤}
 use Rattle.lattice.specs.declared.vector.Vector.{Vector}
-use Rattle.lattice.specs.declared.condition.Reply.{Reply}
 use Rattle.lattice.specs.declared.board.Board.{Board}
 use Rattle.lattice.specs.declared.verdict.Verdict as verdict
 use Rattle.lattice.specs.declared.verdict.Verdict.{Verdict}
-use Rattle.lattice.specs.Limits.{places, highest, deciding}
-use Rattle.lattice.specs.Steps.{FloorStep, CeilingStep, stay, lift, holds, never, above, spent, RunStep, searched}
-use Rattle.lattice.specs.History.{floored, ceiled, ran, Reached, new, called}
+use Rattle.lattice.specs.Limits.{highest, deciding}
+use Rattle.lattice.specs.Steps.{FloorStep, CeilingStep, stay, lift, holds, never, above, spent, RunStep}
+use Rattle.lattice.specs.History.{floored, ceiled, ran, called}
 use Rattle.examples.specs.Depots.{alike, apart, replies}
 use Rattle.examples.specs.Gates.{Alike, Apart}
-use Rattle.examples.proofs.Boards.{vector, board, gives}
-
--- heights x and y at places 0 and 1
-abbrev heights : ℕ → ℕ → List ℕ
-heights x y = x ∷ y ∷ replicate 30 0
+use Rattle.examples.proofs.Boards.{vector, board, two, tops, fresh, started, rises, searches, gives}
 
 abbrev v00 : Vector
-v00 = vector (heights 0 0) refl refl
+v00 = two 0 0 refl
 
 abbrev v10 : Vector
-v10 = vector (heights 1 0) refl refl
+v10 = two 1 0 refl
 
 abbrev v11 : Vector
-v11 = vector (heights 1 1) refl refl
+v11 = two 1 1 refl
 
 abbrev v20 : Vector
-v20 = vector (heights 2 0) refl refl
+v20 = two 2 0 refl
 
 abbrev v21 : Vector
-v21 = vector (heights 2 1) refl refl
+v21 = two 2 1 refl
 
--- the ceilings of a new board, and with ceiling 0 at place 0
-abbrev tops : Vector
-tops = vector (replicate places highest) refl refl
-
+-- the ceilings with ceiling 0 at place 0
 abbrev low : Vector
 low = vector (0 ∷ replicate 31 highest) refl refl
 
-abbrev fresh : Board
-fresh = board v00 tops verdict.TheVariants.Open 0 (lit≤ tt)
-
-started : (reply : Vector → Reply) → Reached reply [] fresh
-started reply = new (record { heights = refl; ceilings = refl; verdict = refl; count = refl })
-
 -- budget 0 is pending on a new board: the reply lifts van 0
 nothing : RunStep (replies alike) 0 fresh 0 fresh
-nothing = searched refl (record { climb = stay; afforded = lit≤ tt; ends = spent (0, 1, refl, lit≤ tt) refl; ceilings = refl; count = refl })
+nothing = searches refl stay (lit≤ tt) (spent (0, 1, refl, lit≤ tt) refl) refl refl
 
 abbrev moved : Board
 moved = board v10 tops verdict.TheVariants.Found 1 (lit≤ tt)
 
 one : RunStep (replies alike) 1 fresh 1 moved
-one = searched refl (record { climb = lift stay refl (lit≤ tt) refl; afforded = lit≤ tt; ends = holds refl; ceilings = refl; count = refl })
+one = searches refl (lift stay refl (lit≤ tt) refl) (lit≤ tt) (holds refl) refl refl
 
 abbrev lowered : Board
 lowered = board v00 low verdict.TheVariants.Open 0 (lit≤ tt)
@@ -64,7 +50,7 @@ abbrev shut : Board
 shut = board v00 low verdict.TheVariants.None 0 (lit≤ tt)
 
 shuts : RunStep (replies alike) 0 lowered 0 shut
-shuts = searched refl (record { climb = stay; afforded = lit≤ tt; ends = above {p = 0} {h = 1} refl (lit< tt); ceilings = refl; count = refl })
+shuts = searches refl stay (lit≤ tt) (above {p = 0} {h = 1} refl (lit< tt)) refl refl
 
 pub alike_stands : Alike
 alike_stands = record {
@@ -78,49 +64,49 @@ abbrev best : Board
 best = board v00 tops verdict.TheVariants.Found 0 (lit≤ tt)
 
 first : RunStep (replies apart) deciding fresh 0 best
-first = searched refl (record { climb = stay; afforded = lit≤ tt; ends = holds refl; ceilings = refl; count = refl })
+first = searches refl stay (lit≤ tt) (holds refl) refl refl
 
 -- van 0 is moved on by a floor, which opens what was found
 abbrev raised : Board
 raised = board v10 tops verdict.TheVariants.Open 0 (lit≤ tt)
 
 raise : FloorStep 0 1 best raised
-raise = record { vector = refl; ceilings = refl; count = refl; over = λ lt. absurd (omega arith); rose = λ le up. refl; kept = λ le same. absurd (omega arith) }
+raise = rises refl refl refl (lit≤ tt) (lit< tt) refl
 
 raise_new : FloorStep 0 1 fresh raised
-raise_new = record { vector = refl; ceilings = refl; count = refl; over = λ lt. absurd (omega arith); rose = λ le up. refl; kept = λ le same. absurd (omega arith) }
+raise_new = rises refl refl refl (lit≤ tt) (lit< tt) refl
 
 -- van 1 gives way to it
 abbrev swapped : Board
 swapped = board v11 tops verdict.TheVariants.Found 1 (lit≤ tt)
 
 second : RunStep (replies apart) deciding raised 1 swapped
-second = searched refl (record { climb = lift stay refl (lit≤ tt) refl; afforded = lit≤ tt; ends = holds refl; ceilings = refl; count = refl })
+second = searches refl (lift stay refl (lit≤ tt) refl) (lit≤ tt) (holds refl) refl refl
 
 -- past its last gate there is nothing
 abbrev past : Board
 past = board v21 tops verdict.TheVariants.Open 1 (lit≤ tt)
 
 raise_past : FloorStep 0 2 swapped past
-raise_past = record { vector = refl; ceilings = refl; count = refl; over = λ lt. absurd (omega arith); rose = λ le up. refl; kept = λ le same. absurd (omega arith) }
+raise_past = rises refl refl refl (lit≤ tt) (lit< tt) refl
 
 abbrev lost : Board
 lost = board v21 tops verdict.TheVariants.None 1 (lit≤ tt)
 
 third : RunStep (replies apart) deciding past 0 lost
-third = searched refl (record { climb = stay; afforded = lit≤ tt; ends = never refl; ceilings = refl; count = refl })
+third = searches refl stay (lit≤ tt) (never refl) refl refl
 
 abbrev past_new : Board
 past_new = board v20 tops verdict.TheVariants.Open 0 (lit≤ tt)
 
 raise_past_new : FloorStep 0 2 fresh past_new
-raise_past_new = record { vector = refl; ceilings = refl; count = refl; over = λ lt. absurd (omega arith); rose = λ le up. refl; kept = λ le same. absurd (omega arith) }
+raise_past_new = rises refl refl refl (lit≤ tt) (lit< tt) refl
 
 abbrev lost_new : Board
 lost_new = board v20 tops verdict.TheVariants.None 0 (lit≤ tt)
 
 third_new : RunStep (replies apart) deciding past_new 0 lost_new
-third_new = searched refl (record { climb = stay; afforded = lit≤ tt; ends = never refl; ceilings = refl; count = refl })
+third_new = searches refl stay (lit≤ tt) (never refl) refl refl
 
 pub apart_stands : Apart
 apart_stands =

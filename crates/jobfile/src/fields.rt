@@ -60,7 +60,7 @@ pub(crate) fn watch(reader: &mut Reader<'_>, frame: Frame) -> Result<u16, JobFau
 
 // The wish in a part of the file. What a function is handed is known to hold bytes, and this passes that on.
 fn wish_in<P: Payload>(part: &[u8]) -> Option<P::Wish>
-    ensures is { result ≡ of_width P.wide P.stated part.now }
+    ensures is { result ≡ of_width P.WIDTH P.stated part.now }
     ensures bytes { (k : ℕ) → slice_index part.now k < 256 }
 {
     P::wish(part)
@@ -68,7 +68,7 @@ fn wish_in<P: Payload>(part: &[u8]) -> Option<P::Wish>
 
 // The wish of one kind: as many bytes as a payload of it has.
 fn wish_of<P: Payload>(reader: &mut Reader<'_>) -> Result<P::Wish, JobFault>
-    ensures { MatchResult result (λ w. PayloadRead P.wide P.stated w reader.old reader.new) (λ e. (length reader.old.rest.now < P.wide) × (job_row e ≡ row rule.Missing reader.old.total Job)) }
+    ensures { MatchResult result (λ w. PayloadRead P.WIDTH P.stated w reader.old reader.new) (λ e. (length reader.old.rest.now < P.WIDTH) × (job_row e ≡ row rule.Missing reader.old.total Job)) }
 {
     let missing = JobFault::Missing(reader.total());
     let part = reader.take(P::size()).ok_or(missing)?;

@@ -6,10 +6,9 @@ ghost use Rattle.std.proofs.Common.{rules};
 pub trait Payload {
     const WIDTH: usize;
 
-    type Wish;
+    ghost WIDTH: { ℕ };
 
-    // The width, as clauses name it.
-    ghost wide: { ℕ };
+    type Wish;
 
     // The wish that so many bytes of the file state.
     ghost stated: { List ℕ → Self.Wish };
@@ -18,17 +17,20 @@ pub trait Payload {
     ghost wanted: { Self.Wish → List ℕ → Bool };
 
     fn size() -> usize
-        ensures { result ≡ wide };
+        ensures { result ≡ WIDTH }
+    {
+        Self::WIDTH
+    }
 
     // The wish in a part of the file; nothing if the part has another width.
     fn wish(part: &[u8]) -> Option<Self::Wish>
-        ensures { result ≡ of_width wide stated part.now };
+        ensures { result ≡ of_width WIDTH stated part.now };
 
     // Whether the wish wants a payload of the kind's width; bytes of another width are none.
     fn meets(wish: &Self::Wish, part: &[u8]) -> bool
-        ensures { result ≡ (length part.now == wide) && wanted wish.now part.now };
+        ensures { result ≡ (length part.now == WIDTH) && wanted wish.now part.now };
 
-    ghost narrow: { (1 ≤ wide) × (wide ≤ 4) };
+    ghost narrow: { (1 ≤ WIDTH) × (WIDTH ≤ 4) };
 }
 
 pub struct Code;
@@ -38,17 +40,13 @@ impl Payload for Code {
 
     type Wish = u8;
 
-    ghost wide = { 1 };
+    ghost WIDTH = { 1 };
 
     ghost stated = { code_wish };
 
     ghost wanted = { code_wanted };
 
     ghost narrow = { Prim.search rules };
-
-    fn size() -> usize {
-        Self::WIDTH
-    }
 
     fn wish(part: &[u8]) -> Option<u8> {
         match *part {
@@ -76,17 +74,13 @@ impl Payload for Scan {
 
     type Wish = ScanWish;
 
-    ghost wide = { 4 };
+    ghost WIDTH = { 4 };
 
     ghost stated = { scan_wish };
 
     ghost wanted = { scan_wanted };
 
     ghost narrow = { Prim.search rules };
-
-    fn size() -> usize {
-        Self::WIDTH
-    }
 
     fn wish(part: &[u8]) -> Option<ScanWish> {
         match *part {

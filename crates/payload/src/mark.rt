@@ -9,7 +9,7 @@ pub const WIDEST: usize = 4;
 
 // Whether the wish wants the payload in the first bytes: one function for every kind of 1 to 4 bytes.
 pub fn mark<P: Payload>(wish: &P::Wish, bytes: &[u8; WIDEST]) -> bool
-    ensures { result ≡ P.wanted wish.now (take P.wide bytes.now) }
+    ensures { result ≡ P.wanted wish.now (take P.WIDTH bytes.now) }
 {
     P::meets(wish, &bytes[..P::size()])
 }

@@ -15,9 +15,9 @@ fn refuses(
         assert!(rt; false);
         return Ok(());
     };
-    assert_eq!(rt; refusal.number, number);
+    assert_eq!(rt; refusal.number(), number);
     assert_eq!(rt; refusal.position, position);
-    assert!(rt; refusal.layer == layer);
+    assert_eq!(rt; refusal.layer, layer);
     assert_eq!(rt; job.letter(), '-');
     assert_eq!(rt; job.places(), 0);
     Ok(())
@@ -47,12 +47,8 @@ fn fill(file: &mut [u8; FILE], length: u16, count: u16) {
     file[..14].copy_from_slice(&[
         1, 0, 0, length[0], length[1], b'T', 1, b'K', 0, 1, 5, 0, count[0], count[1],
     ]);
-    for k in 0..1_025 {
-        let at = 14 + 4 * k;
-        file[at] = 3;
-        file[at + 1] = 0;
-        file[at + 2] = b'L';
-        file[at + 3] = 5;
+    for event in file[14..].chunks_exact_mut(4) {
+        event.copy_from_slice(&[3, 0, b'L', 5]);
     }
 }
 

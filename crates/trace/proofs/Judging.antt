@@ -23,13 +23,13 @@ pub same_received : (m k : ℕ) → Receive m ≡ Receive k → m ≡ k
 same_received m k e = cc
 
 pub send_receive : (to m k : ℕ) → Send to m ≡ Receive k → ⊥
-send_receive to m k e = let z : ◌≡◌ {A = ℕ} 0 1 = cc in omega arith
+send_receive to m k e = cc
 
 pub send_local : (to m : ℕ) → Send to m ≡ Local → ⊥
-send_local to m e = let z : ◌≡◌ {A = ℕ} 0 1 = cc in omega arith
+send_local to m e = cc
 
 pub receive_local : (m : ℕ) → Receive m ≡ Local → ⊥
-receive_local m e = let z : ◌≡◌ {A = ℕ} 0 1 = cc in omega arith
+receive_local m e = cc
 
 -- what breaks a rule, by the kind of the action
 pub record BadReceiver (n p : ℕ) (a : Action) : Type 0 where
@@ -42,24 +42,18 @@ pub bad_receiver : (n p : ℕ) (a : Action) → NoReceiver n p a → BadReceiver
 bad_receiver n p _ (absent {to} {m} h) = record { to = to; message = m; is = refl; bad = inl h }
 bad_receiver n p _ (itself {to} {m} h) = record { to = to; message = m; is = refl; bad = inr h }
 
-pub breaks_local : (es : List Event) (p : ℕ) (a : Action) → a ≡ Local → BreaksMessages es p a → ⊥
-breaks_local es p _ is (sent_again {to} {m} s e) = send_local to m is
-breaks_local es p _ is (unsent {m} none) = receive_local m is
-breaks_local es p _ is (misdirected {m} s e d) = receive_local m is
-breaks_local es p _ is (received_again {m} r e) = receive_local m is
+good_receiver : (n p to m : ℕ) → to < n → (to ≡ p → ⊥) → NoReceiver n p (Send to m) → ⊥
+good_receiver n p to m lt ne (absent h) = omega arith
+good_receiver n p to m lt ne (itself h) = ne h
 
-pub breaks_send : (es : List Event) (p : ℕ) (a : Action) (to m : ℕ) → a ≡ Send to m → ((s : Sending es) → s.message ≡ m → ⊥) → BreaksMessages es p a → ⊥
-breaks_send es p _ to m is new (sent_again {to = k} {m = l} s e) = new s (e ∙ same_message k l to m is)
-breaks_send es p _ to m is new (unsent {m = l} none) = send_receive to m l (sym is)
-breaks_send es p _ to m is new (misdirected {m = l} s e d) = send_receive to m l (sym is)
-breaks_send es p _ to m is new (received_again {m = l} r e) = send_receive to m l (sym is)
+breaks_send : (es : List Event) (p to m : ℕ) → ((s : Sending es) → s.message ≡ m → ⊥) → BreaksMessages es p (Send to m) → ⊥
+breaks_send es p to m new (sent_again s e) = new s e
 
-pub breaks_receive : (es : List Event) (p : ℕ) (a : Action) (m : ℕ) → a ≡ Receive m → (s : Sending es) → s.message ≡ m → ((t : Sending es) → t.message ≡ m → t.to ≡ p) →
-    ((r : Receiving es) → r.message ≡ m → ⊥) → BreaksMessages es p a → ⊥
-breaks_receive es p _ m is s same named new (sent_again {to = k} {m = l} t e) = send_receive k l m is
-breaks_receive es p _ m is s same named new (unsent {m = l} none) = none s (same ∙ sym (same_received l m is))
-breaks_receive es p _ m is s same named new (misdirected {m = l} t e d) = d (named t (e ∙ same_received l m is))
-breaks_receive es p _ m is s same named new (received_again {m = l} r e) = new r (e ∙ same_received l m is)
+breaks_receive : (es : List Event) (p m : ℕ) → (s : Sending es) → s.message ≡ m → ((t : Sending es) → t.message ≡ m → t.to ≡ p) → ((r : Receiving es) → r.message ≡ m → ⊥) →
+    BreaksMessages es p (Receive m) → ⊥
+breaks_receive es p m s same named new (unsent none) = none s same
+breaks_receive es p m s same named new (misdirected t e d) = d (named t e)
+breaks_receive es p m s same named new (received_again r e) = new r e
 
 -- an event of a process that there is, with room for it
 module _ (n : ℕ) (es : List Event) (ev : Event) (room : length es < longest) (process : ev.process < n) where
@@ -67,13 +61,10 @@ module _ (n : ℕ) (es : List Event) (ev : Event) (room : length es < longest) (
   ill_sent to m is bad = no_receiver room process (subst (NoReceiver n ev.process) (sym is) (⊎_elim (λ h. absent h) (λ h. itself h) bad))
 
   well_sent : (to m : ℕ) → ev.action ≡ Send to m → to < n → (to ≡ ev.process → ⊥) → NoReceiver n ev.process ev.action → ⊥
-  well_sent to m is lt ne x =
-      let b = bad_receiver n ev.process ev.action x in
-      let same = same_receiver b.to b.message to m (sym b.is ∙ is) in
-      ⊎_elim (λ h. omega arith) (λ h. ne (sym same ∙ h)) b.bad
+  well_sent to m is lt ne x = good_receiver n ev.process to m lt ne (subst (NoReceiver n ev.process) is x)
 
   no_send : (m : ℕ) → ev.action ≡ Receive m → NoReceiver n ev.process ev.action → ⊥
-  no_send m is x = let b = bad_receiver n ev.process ev.action x in send_receive b.to b.message m (sym b.is ∙ is)
+  no_send m is x = elim (subst (NoReceiver n ev.process) is x) [ ]
 
   pub sent_twice : (to m : ℕ) → ev.action ≡ Send to m → to < n → (to ≡ ev.process → ⊥) → (s : Sending es) → s.message ≡ m → Refused n es ev Message
   sent_twice to m is lt ne s same = no_message room process (well_sent to m is lt ne) (subst (BreaksMessages es ev.process) (sym is) (sent_again s same))
@@ -81,25 +72,28 @@ module _ (n : ℕ) (es : List Event) (ev : Event) (room : length es < longest) (
   pub ill_received : (m : ℕ) → ev.action ≡ Receive m → BreaksMessages es ev.process (Receive m) → Refused n es ev Message
   ill_received m is x = no_message room process (no_send m is) (subst (BreaksMessages es ev.process) (sym is) x)
 
-  pub fits_local : ev.action ≡ Local → Fits n es ev × (None ≡ sent_by es ev.action)
-  fits_local is = (
+  pub fits_send : (to m : ℕ) → ev.action ≡ Send to m → to < n → (to ≡ ev.process → ⊥) → ((s : Sending es) → s.message ≡ m → ⊥) → Fits n es ev × (None ≡ sent_by es ev.action)
+  fits_send to m is lt ne new = (
     record {
       room = room;
       process = process;
-      receiver = λ x. let b = bad_receiver n ev.process ev.action x in send_local b.to b.message (sym b.is ∙ is);
-      messages = breaks_local es ev.process ev.action is;
+      receiver = well_sent to m is lt ne;
+      messages = λ x. breaks_send es ev.process to m new (subst (BreaksMessages es ev.process) is x);
     },
     ap (sent_by es) (sym is),
   )
 
-  pub fits_send : (to m : ℕ) → ev.action ≡ Send to m → to < n → (to ≡ ev.process → ⊥) → ((s : Sending es) → s.message ≡ m → ⊥) → Fits n es ev × (None ≡ sent_by es ev.action)
-  fits_send to m is lt ne new =
-      (record { room = room; process = process; receiver = well_sent to m is lt ne; messages = breaks_send es ev.process ev.action to m is new }, ap (sent_by es) (sym is))
-
   pub fits_receive : (m : ℕ) → ev.action ≡ Receive m → (s : Sending es) → s.message ≡ m → ((t : Sending es) → t.message ≡ m → t.to ≡ ev.process) →
       ((r : Receiving es) → r.message ≡ m → ⊥) → Fits n es ev × (Some (source es m) ≡ sent_by es ev.action)
-  fits_receive m is s same named new =
-      (record { room = room; process = process; receiver = no_send m is; messages = breaks_receive es ev.process ev.action m is s same named new }, ap (sent_by es) (sym is))
+  fits_receive m is s same named new = (
+    record {
+      room = room;
+      process = process;
+      receiver = no_send m is;
+      messages = λ x. breaks_receive es ev.process m s same named new (subst (BreaksMessages es ev.process) is x);
+    },
+    ap (sent_by es) (sym is),
+  )
 
 -- what is found of a message
 pub some_sender : (t : Trace) (m : ℕ) (o : Option ℕ) → SenderAt t m o → is_some o ≡ true → (s : Sending (events t)) × (s.message ≡ m)

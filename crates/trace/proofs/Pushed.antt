@@ -1,192 +1,118 @@
 -- The tables after one event more. Assumes nothing.
-use Rattle.std.proofs.Common.{◌≡◌, ℕ, ◌+◌, ◌*◌, ◌<◌, ◌≤◌, List, [], ◌∷◌, ◌++◌, length, get_or, set, Option, sym, refl, ap, ◌∙◌, subst, ⊎_elim, arith}
-use Rattle.std.proofs.lemmas.List.{length-set, get_or-set_same, get_or-set_other}
-use Rattle.std.proofs.lemmas.Bool.{cases_eq}
+use Rattle.std.proofs.Common.{◌≡◌, ℕ, ◌+◌, ◌-◌, ◌<◌, false, cond, true, false, Bool, List, [], ◌∷◌, ◌++◌, length, get_or, set, Option, sym, refl, ap, ◌∙◌, subst, ⊎_elim, arith}
+use Rattle.std.specs.Global.{Vec}
+use Rattle.std.proofs.lemmas.List.{length_push, map-set, get_or-map, get_or-set_same, get_or-set_other, get_or_append_left, get_or_push}
+use Rattle.std.proofs.lemmas.Bool.{cases_eq, cond-true, cond-false, false_from_ne_true}
 use Rattle.trace.specs.declared.event.Event.{Event}
 use Rattle.trace.specs.declared.event.Action.{Action}
 use Rattle.trace.specs.declared.event.Action.TheVariants.{Local, Send, Receive}
-use Rattle.trace.specs.Events.{most, by, number, total}
+use Rattle.trace.specs.declared.trace.Ends.{Ends}
+use Rattle.trace.specs.Events.{most, by, does, number, total, sends, Sending, Receiving}
 use Rattle.trace.specs.Rules.{Valid}
-use Rattle.trace.specs.Tables.{slot, Indexed, SendsAt, ReceivesAt}
-use Rattle.trace.specs.Growth.{Fits, Within, sent_by, ticked}
-use Rattle.trace.proofs.Counts.{count_le, number_is, number_total}
-use Rattle.trace.proofs.Appended.{more, old_by, last_by, last_does, number_old, number_last, total_here, total_other, where_is, old_send, old_receive}
-use Rattle.trace.proofs.Judging.{same_message, same_received, send_receive, send_local, receive_local}
-use Rattle.trace.proofs.Tables.{Whole, total_few}
-use Rattle.trace.proofs.Grown.{answered, not_sent, not_received, grown}
-use Rattle.trace.proofs.Steps.{clocks_more}
-
--- a table of messages once the event at place e is noted in it
-abbrev pub with_send : List ℕ → ℕ → Action → List ℕ
-with_send table e Local = table
-with_send table e (Send to m) = set table m e
-with_send table e (Receive m) = table
-
-abbrev pub with_receive : List ℕ → ℕ → Action → List ℕ
-with_receive table e Local = table
-with_receive table e (Send to m) = table
-with_receive table e (Receive m) = set table m e
+use Rattle.trace.specs.Tables.{listed, Indexed, Finds, Tabled, receives, sent_at, received_at}
+use Rattle.trace.specs.Growth.{Fits, Within, sent_by}
+use Rattle.trace.proofs.Counts.{number_is, number_total}
+use Rattle.trace.proofs.Appended.{more, old_by, last_by, old_does, last_does, number_old, number_last, total_here, total_other, where_is}
+use Rattle.trace.proofs.Sources.{sends_is, receives_is}
+use Rattle.trace.proofs.Grown.{answered, not_sent, not_received}
 
 module _ (n : ℕ) (es : List Event) (ev : Event) where
-  counted_more : (counts : List ℕ) → length counts ≡ most → ev.process < most → ((i : ℕ) → i < most → get_or counts i 0 ≡ total es i) → (i : ℕ) → i < most →
-      get_or (set counts ev.process (get_or counts ev.process 0 + 1)) i 0 ≡ total (more es ev) i
-  counted_more counts sized own each i h =
-      let p = ev.process in
+  -- the list of places of each process, with the place of the event at the end of that of its own
+  abbrev pub with_place : List (List ℕ) → List (List ℕ)
+  with_place places = set places ev.process (get_or places ev.process [] ++ length es ∷ [])
+
+  place_here : (places : List (List ℕ)) (i : ℕ) → length places ≡ most → ev.process < most → ev.process ≡ i →
+      get_or (with_place places) i [] ≡ get_or places i [] ++ length es ∷ []
+  place_here places i long own here =
+      subst (λ (j : ℕ). get_or (with_place places) j [] ≡ get_or places j [] ++ length es ∷ []) here (get_or-set_same places ev.process _ [] (omega arith))
+
+  place_other : (places : List (List ℕ)) (i : ℕ) → (ev.process ≡ i → ⊥) → get_or (with_place places) i [] ≡ get_or places i []
+  place_other places i ne = get_or-set_other places ev.process i _ [] (λ e. ne (sym e))
+
+  counted_more : (places : List (List ℕ)) → length places ≡ most → ev.process < most → ((i : ℕ) → i < most → length (get_or places i []) ≡ total es i) → (i : ℕ) → i < most →
+      length (get_or (with_place places) i []) ≡ total (more es ev) i
+  counted_more places long own each i h =
       ⊎_elim
-      (λ here.
-      subst (λ (j : ℕ). get_or (set counts p (get_or counts p 0 + 1)) j 0 ≡ total (more es ev) j) here
-      (get_or-set_same counts p _ 0 (omega arith) ∙ ap (λ x. x + 1) (each p own) ∙ sym (total_here es ev p refl)))
-      (λ ne. get_or-set_other counts p i _ 0 (λ e. ne (sym e)) ∙ each i h ∙ sym (total_other es ev i ne))
-      (cases_eq p i)
+      (λ here. ap length (place_here places i long own here) ∙ length_push (get_or places i []) (length es) ∙ ap (λ x. x + 1) (each i h) ∙ sym (total_here es ev i here))
+      (λ ne. ap length (place_other places i ne) ∙ each i h ∙ sym (total_other es ev i ne))
+      (cases_eq ev.process i)
 
-  -- no two events share a slot
-  apart : Valid n es → (e : ℕ) → e < length es → slot (by es e) (number es e) ≡ slot ev.process (total es ev.process + 1) → total es ev.process < 1024 → ⊥
-  apart v e h same room =
-      let few = total_few n es v (by es e) in
-      let low = number_total es e h in
-      let pos = number_is es e (by es e) refl in
-      let owner : by es e ≡ ev.process = omega arith in
-      let alike = ap (total es) owner in
-      omega arith
-
-  indexed_more : Valid n es → (places : List ℕ) (k : ℕ) → k ≡ slot ev.process (total es ev.process + 1) → k < length places → total es ev.process < 1024 →
-      Indexed es places → Indexed (more es ev) (set places k (length es))
-  indexed_more v places k is within room indexed e h =
+  indexed_more : Valid n es → (places : List (List ℕ)) → length places ≡ most → ev.process < most → ((i : ℕ) → i < most → length (get_or places i []) ≡ total es i) →
+      Indexed es places → Indexed (more es ev) (with_place places)
+  indexed_more v places long own each indexed e h =
       ⊎_elim
       (λ lt.
-      let at : slot (by (more es ev) e) (number (more es ev) e) ≡ slot (by es e) (number es e) =
-      ap (λ (i : ℕ). slot i (number (more es ev) e)) (old_by es ev e lt) ∙ ap (λ (x : ℕ). slot (by es e) x) (number_old es ev e lt) in
-      ap (λ (x : ℕ). get_or (set places k (length es)) x 0) at
-      ∙ get_or-set_other places k (slot (by es e) (number es e)) (length es) 0 (λ same. apart v e lt (same ∙ is) room)
+      let i = by es e in
+      ap (λ (j : ℕ). get_or (get_or (with_place places) j []) (number (more es ev) e - 1) 0) (old_by es ev e lt)
+      ∙ ap (λ (k : ℕ). get_or (get_or (with_place places) i []) (k - 1) 0) (number_old es ev e lt)
+      ∙ ⊎_elim
+      (λ here.
+      let counted = each i (subst (λ (j : ℕ). j < most) here own) in
+      ap (λ xs. get_or xs (number es e - 1) 0) (place_here places i long own here)
+      ∙ get_or_append_left (get_or places i []) (length es ∷ []) 0 (number es e - 1) (omega (arith, number_total es e lt, number_is es e i refl)))
+      (λ ne. ap (λ xs. get_or xs (number es e - 1) 0) (place_other places i ne))
+      (cases_eq ev.process i)
       ∙ indexed e lt)
       (λ last.
-      let at : slot (by (more es ev) e) (number (more es ev) e) ≡ k =
-      ap (λ (i : ℕ). slot i (number (more es ev) e)) (last_by es ev e last) ∙ ap (λ (x : ℕ). slot ev.process x) (number_last es ev e last) ∙ sym is in
-      ap (λ (x : ℕ). get_or (set places k (length es)) x 0) at ∙ get_or-set_same places k (length es) 0 within ∙ sym last)
+      let p = ev.process in
+      ap (λ (j : ℕ). get_or (get_or (with_place places) j []) (number (more es ev) e - 1) 0) (last_by es ev e last)
+      ∙ ap (λ xs. get_or xs (number (more es ev) e - 1) 0) (place_here places p long own refl)
+      ∙ get_or_push (get_or places p []) (length es) 0 (number (more es ev) e - 1) (omega (arith, each p own, number_last es ev e last))
+      ∙ sym last)
       (where_is es ev e h)
 
-  sends_more : Fits n es ev → (table : List ℕ) → SendsAt es table → (a : Action) → ev.action ≡ a → ((to m : ℕ) → a ≡ Send to m → m < length table) →
-      SendsAt (more es ev) (with_send table (length es) a)
-  sends_more fits table known Local is room s =
-      ⊎_elim
-      (λ lt. known (old_send es ev s lt))
-      (λ at. absurd (send_local s.to s.message (sym s.is ∙ last_does es ev s.at at ∙ is)))
-      (where_is es ev s.at s.within)
-  sends_more fits table known (Receive m) is room s =
-      ⊎_elim
-      (λ lt. known (old_send es ev s lt))
-      (λ at. absurd (send_receive s.to s.message m (sym s.is ∙ last_does es ev s.at at ∙ is)))
-      (where_is es ev s.at s.within)
-  sends_more fits table known (Send to m) is room s =
-      ⊎_elim
-      (λ lt. get_or-set_other table m s.message (length es) 0 (not_sent n es ev fits to m is (old_send es ev s lt)) ∙ known (old_send es ev s lt))
-      (λ at.
-      let same = same_message s.to s.message to m (sym s.is ∙ last_does es ev s.at at ∙ is) in
-      ap (λ (x : ℕ). get_or (set table m (length es)) x 0) same ∙ get_or-set_same table m (length es) 0 (room to m refl) ∙ sym at)
-      (where_is es ev s.at s.within)
+  -- an event that fits sends no message again, and receives none again
+  sent_anew : Fits n es ev → (e m : ℕ) → e < length es → sends m (does es e) ≡ true → sends m ev.action ≡ false
+  sent_anew fits e m h passes =
+      let x = sends_is m (does es e) passes in
+      let s : Sending es = record { at = e; within = h; to = x.to; message = m; is = x.is } in
+      false_from_ne_true _ (λ again. let y = sends_is m ev.action again in not_sent n es ev fits y.to m y.is s refl)
 
-  receives_more : Fits n es ev → (table : List ℕ) → ReceivesAt es table → (a : Action) → ev.action ≡ a → ((m : ℕ) → a ≡ Receive m → m < length table) →
-      ReceivesAt (more es ev) (with_receive table (length es) a)
-  receives_more fits table known Local is room r =
-      ⊎_elim
-      (λ lt. known (old_receive es ev r lt))
-      (λ at. absurd (receive_local r.message (sym r.is ∙ last_does es ev r.at at ∙ is)))
-      (where_is es ev r.at r.within)
-  receives_more fits table known (Send to m) is room r =
-      ⊎_elim
-      (λ lt. known (old_receive es ev r lt))
-      (λ at. absurd (send_receive to m r.message (sym is ∙ sym (last_does es ev r.at at) ∙ r.is)))
-      (where_is es ev r.at r.within)
-  receives_more fits table known (Receive m) is room r =
-      ⊎_elim
-      (λ lt. get_or-set_other table m r.message (length es) 0 (not_received n es ev fits m is (old_receive es ev r lt)) ∙ known (old_receive es ev r lt))
-      (λ at.
-      let same = same_received r.message m (sym r.is ∙ last_does es ev r.at at ∙ is) in
-      ap (λ (x : ℕ). get_or (set table m (length es)) x 0) same ∙ get_or-set_same table m (length es) 0 (room m refl) ∙ sym at)
-      (where_is es ev r.at r.within)
+  received_anew : Fits n es ev → (e m : ℕ) → e < length es → receives m (does es e) ≡ true → receives m ev.action ≡ false
+  received_anew fits e m h passes =
+      let r : Receiving es = record { at = e; within = h; message = m; is = receives_is m (does es e) passes } in
+      false_from_ne_true _ (λ again. not_received n es ev fits m (receives_is m ev.action again) r refl)
 
--- the tables of messages once the event is noted in them
-pub record Noted (ev : Event) (e : ℕ) (sends receives sends' receives' : List ℕ) : Type 0 where
-  pub sends_is : sends' ≡ with_send sends e ev.action
-  pub receives_is : receives' ≡ with_receive receives e ev.action
-  pub sends_long : length sends' ≡ length sends
-  pub receives_long : length receives' ≡ length receives
-  pub sent : (to m : ℕ) → ev.action ≡ Send to m → m < length sends
-  pub received : (m : ℕ) → ev.action ≡ Receive m → m < length receives
+  finds_more : (test : ℕ → Action → Bool) (table table' : List ℕ) → ((e m : ℕ) → e < length es → test m (does es e) ≡ true → test m ev.action ≡ false) → Finds test es table →
+      ((m : ℕ) → get_or table' m 0 ≡ cond (test m ev.action) (length es) (get_or table m 0)) → Finds test (more es ev) table'
+  finds_more test table table' anew known noted e m h passes =
+      noted m
+      ∙ ⊎_elim
+      (λ lt. let was = sym (ap (test m) (old_does es ev e lt)) ∙ passes in cond-false _ _ _ (anew e m lt was) ∙ known e m lt was)
+      (λ last. cond-true _ _ _ (sym (ap (test m) (last_does es ev e last)) ∙ passes) ∙ sym last)
+      (where_is es ev e h)
 
-module _ (ev : Event) (e : ℕ) (sends receives sends' receives' : List ℕ) where
-  pub noted_local : ev.action ≡ Local → sends' ≡ sends → receives' ≡ receives → Noted ev e sends receives sends' receives'
-  noted_local is s r =
+  pub tabled_more : (places : List (List ℕ)) (messages messages' : List Ends) → length places ≡ most → ev.process < most → Valid n es → Fits n es ev → Tabled es places messages →
+      ((m : ℕ) → get_or (sent_at messages') m 0 ≡ cond (sends m ev.action) (length es) (get_or (sent_at messages) m 0)) →
+      ((m : ℕ) → get_or (received_at messages') m 0 ≡ cond (receives m ev.action) (length es) (get_or (received_at messages) m 0)) →
+      Tabled (more es ev) (with_place places) messages'
+  tabled_more places messages messages' long own v fits t sent received =
       record {
-        sends_is = s ∙ ap (with_send sends e) (sym is);
-        receives_is = r ∙ ap (with_receive receives e) (sym is);
-        sends_long = ap length s;
-        receives_long = ap length r;
-        sent = λ to m acts. absurd (send_local to m (sym acts ∙ is));
-        received = λ m acts. absurd (receive_local m (sym acts ∙ is));
-      }
-
-  pub noted_send : (to m : ℕ) → ev.action ≡ Send to m → m < length sends → sends' ≡ set sends m e → receives' ≡ receives → Noted ev e sends receives sends' receives'
-  noted_send to m is lt s r =
-      record {
-        sends_is = s ∙ ap (with_send sends e) (sym is);
-        receives_is = r ∙ ap (with_receive receives e) (sym is);
-        sends_long = ap length s ∙ length-set sends m e;
-        receives_long = ap length r;
-        sent = λ k l acts. subst (λ (x : ℕ). x < length sends) (same_message to m k l (sym is ∙ acts)) lt;
-        received = λ l acts. absurd (send_receive to m l (sym is ∙ acts));
-      }
-
-  pub noted_receive : (m : ℕ) → ev.action ≡ Receive m → m < length receives → sends' ≡ sends → receives' ≡ set receives m e → Noted ev e sends receives sends' receives'
-  noted_receive m is lt s r =
-      record {
-        sends_is = s ∙ ap (with_send sends e) (sym is);
-        receives_is = r ∙ ap (with_receive receives e) (sym is);
-        sends_long = ap length s;
-        receives_long = ap length r ∙ length-set receives m e;
-        sent = λ k l acts. absurd (send_receive k l m (sym acts ∙ is));
-        received = λ l acts. subst (λ (x : ℕ). x < length receives) (same_received m l (sym is ∙ acts)) lt;
-      }
-
--- the events and the tables, with one event more
-module _ (n : ℕ) (es : List Event) (ev : Event) (counts places sends receives : List ℕ) (cs : List (List ℕ)) where
-  pub whole_more : n ≤ most → length counts ≡ most → length places ≡ 16384 → Whole n es counts places sends receives cs → Fits n es ev → (sends' receives' : List ℕ) →
-      Noted ev (length es) sends receives sends' receives' →
-      Whole n (more es ev) (set counts ev.process (get_or counts ev.process 0 + 1)) (set places (ev.process * 1024 + get_or counts ev.process 0) (length es))
-      sends' receives' (cs ++ ticked es ev.process (sent_by es ev.action) ∷ [])
-  whole_more few counts_long places_long w fits sends' receives' noted =
-      let p = ev.process in
-      let own : p < 16 = omega (arith, fits.process) in
-      let counted = w.counted p own in
-      let low : total es p < 1024 = omega (arith, count_le es p (length es), fits.room) in
-      record {
-        valid = grown n es ev w.valid fits;
-        counted = counted_more n es ev counts counts_long own w.counted;
-        indexed = indexed_more n es ev w.valid places (p * 1024 + get_or counts p 0) (omega arith) (omega arith) low w.indexed;
-        sends_at = subst (SendsAt (more es ev)) (sym noted.sends_is) (sends_more n es ev fits sends w.sends_at ev.action refl noted.sent);
-        receives_at = subst (ReceivesAt (more es ev)) (sym noted.receives_is) (receives_more n es ev fits receives w.receives_at ev.action refl noted.received);
-        clocked = ap (λ t. t ++ ticked es p (sent_by es ev.action) ∷ []) w.clocked ∙ sym (clocks_more es ev n w.valid fits);
+        counted = counted_more places long own t.counted;
+        indexed = indexed_more v places long own t.counted t.indexed;
+        sent = finds_more sends (sent_at messages) (sent_at messages') (sent_anew fits) t.sent sent;
+        received = finds_more receives (received_at messages) (received_at messages') (received_anew fits) t.received received;
       }
 
   -- and so they are read off what a push leaves
-  pub pushed : n ≤ most → length counts ≡ most → length places ≡ 16384 → Whole n es counts places sends receives cs → Fits n es ev →
-      (e : ℕ) (es' : List Event) (sends' receives' : List ℕ) (cs' : List (List ℕ)) → e ≡ length es → es' ≡ more es ev → Noted ev e sends receives sends' receives' →
-      cs' ≡ cs ++ ticked es ev.process (sent_by es ev.action) ∷ [] →
-      Whole n es' (set counts ev.process (get_or counts ev.process 0 + 1)) (set places (ev.process * 1024 + get_or counts ev.process 0) e) sends' receives' cs'
-  pushed few counts_long places_long w fits e es' sends' receives' cs' at items noted clocks =
-      let counts' = set counts ev.process (get_or counts ev.process 0 + 1) in
-      let places' : ℕ → List ℕ = λ x. set places (ev.process * 1024 + get_or counts ev.process 0) x in
-      let known = whole_more few counts_long places_long w fits sends' receives' (subst (λ (x : ℕ). Noted ev x sends receives sends' receives') at noted) in
-      subst (λ (x : ℕ). Whole n es' counts' (places' x) sends' receives' cs') (sym at)
-      (subst (λ x. Whole n x counts' (places' (length es)) sends' receives' cs') (sym items)
-      (subst (λ x. Whole n (more es ev) counts' (places' (length es)) sends' receives' x) (sym clocks) known))
+  pub tabled_as : (places : List (List ℕ)) (messages messages' : List Ends) → length places ≡ most → ev.process < most → Valid n es → Fits n es ev → Tabled es places messages →
+      (es' : List Event) (places' : List (List ℕ)) (e : ℕ) → e ≡ length es → es' ≡ more es ev → places' ≡ set places ev.process (get_or places ev.process [] ++ e ∷ []) →
+      ((m : ℕ) → get_or (sent_at messages') m 0 ≡ cond (sends m ev.action) e (get_or (sent_at messages) m 0)) →
+      ((m : ℕ) → get_or (received_at messages') m 0 ≡ cond (receives m ev.action) e (get_or (received_at messages) m 0)) →
+      Tabled es' places' messages'
+  tabled_as places messages messages' long own v fits t es' places' e at items here sent received =
+      subst (λ x. Tabled x places' messages') (sym items)
+      (subst (λ x. Tabled (more es ev) x messages') (sym (here ∙ ap (λ (x : ℕ). set places ev.process (get_or places ev.process [] ++ x ∷ [])) at))
+      (tabled_more places messages messages' long own v fits t
+      (λ m. sent m ∙ ap (λ (x : ℕ). cond (sends m ev.action) x (get_or (sent_at messages) m 0)) at)
+      (λ m. received m ∙ ap (λ (x : ℕ). cond (receives m ev.action) x (get_or (received_at messages) m 0)) at)))
 
--- where the event is written, and the place of the event that sent what it receives
-pub slot_free : (n : ℕ) (es : List Event) (ev : Event) (counts : List ℕ) → n ≤ most → Fits n es ev → ((i : ℕ) → i < most → get_or counts i 0 ≡ total es i) →
-    (ev.process < 16) × (get_or counts ev.process 0 < 1024)
-slot_free n es ev counts few fits counted =
-    let own : ev.process < 16 = omega (arith, fits.process) in
-    (own, omega (arith, counted ev.process own, count_le es ev.process (length es), fits.room))
+-- the lists of places, with one place more in one of them
+pub listed_push : (places : List (Vec ℕ)) (p e : ℕ) (v w : Vec ℕ) → p < length places → w.items ≡ (get_or places p v).items ++ e ∷ [] →
+    listed (set places p w) ≡ set (listed places) p (get_or (listed places) p [] ++ e ∷ [])
+listed_push places p e v w h pushed =
+    map-set (λ x. x.items) places p w
+    ∙ ap (set (listed places) p) (pushed ∙ ap (λ xs. xs ++ e ∷ []) (sym (get_or-map (λ x. x.items) places p v [] h)))
 
 sent_by_is : (n : ℕ) (es : List Event) (ev : Event) → Fits n es ev → (a : Action) → ev.action ≡ a → Within es (sent_by es a)
 sent_by_is n es ev fits Local is = tt

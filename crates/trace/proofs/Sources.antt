@@ -8,7 +8,7 @@ use Rattle.trace.specs.declared.event.Action.{Action}
 use Rattle.trace.specs.declared.event.Action.TheVariants.{Local, Send, Receive}
 use Rattle.trace.specs.Events.{by, does, sends, source, Sending, Receiving}
 use Rattle.trace.specs.Rules.{SentTo, Valid}
-use Rattle.trace.specs.Tables.{sends_to, Answers}
+use Rattle.trace.specs.Tables.{sends_to, receives, Answers, Keeps}
 use Rattle.trace.proofs.Appended.{more, longer, old_does}
 
 -- an action that sends message m
@@ -23,6 +23,11 @@ sends_is m (Receive k) e = absurd (both_ways false refl e)
 
 pub sends_at : (m to k : ℕ) (a : Action) → a ≡ Send to k → k ≡ m → sends m a ≡ true
 sends_at m to k a is same = ap (sends m) is ∙ eq-eqb k m same
+
+pub receives_is : (m : ℕ) (a : Action) → receives m a ≡ true → a ≡ Receive m
+receives_is m Local e = absurd (both_ways false refl e)
+receives_is m (Send to k) e = absurd (both_ways false refl e)
+receives_is m (Receive k) e = ap (λ (x : ℕ). Receive x) (eqb-true k m e)
 
 pub sends_to_is : (p m : ℕ) (a : Action) → sends_to p m a ≡ true → a ≡ Send p m
 sends_to_is p m Local e = absurd (both_ways false refl e)
@@ -97,4 +102,28 @@ sent_to es answers r =
       same = refl;
       earlier = a.0;
       named = refl;
+    }
+
+pub keeps : (n : ℕ) (es : List Event) → Valid n es → Keeps n es
+keeps n es v =
+    record {
+      short = v.few;
+      process = v.process;
+      receiver = v.receiver;
+      other = v.other;
+      sent_once = v.sent_once;
+      received_once = v.received_once;
+      answers = answers_from n es v;
+    }
+
+pub valid_from : (n : ℕ) (es : List Event) → Keeps n es → Valid n es
+valid_from n es k =
+    record {
+      few = k.short;
+      process = k.process;
+      receiver = k.receiver;
+      other = k.other;
+      sent_once = k.sent_once;
+      received_once = k.received_once;
+      sent_first = sent_to es k.answers;
     }

@@ -1,43 +1,48 @@
 -- The events of a trace with the tables that go with them. Assumes nothing.
-use Rattle.std.proofs.Common.{◌≡◌, ℕ, suc, ◌+◌, ◌-◌, ◌*◌, ◌<◌, ◌≤◌, List, [], length, get_or, sym, ap, ◌∙◌, subst, ⊎_elim, arith}
-use Rattle.std.proofs.lemmas.List.{length-map, get_or-map, get_or-replicate}
-use Rattle.std.proofs.lemmas.Bool.{cases_lt}
-use Rattle.trace.specs.declared.event.Event.{Event}
+use Rattle.std.proofs.Common.{◌≡◌, ℕ, zero, suc, ◌-◌, ◌<◌, ◌≤◌, cond, eqb, List, [], ◌∷◌, ◌++◌, map, length, get_or, set, sym, refl, ap, ◌∙◌, subst, ⊎_elim, arith}
+use Rattle.std.specs.Global.{Vec}
+use Rattle.std.proofs.lemmas.List.{length-map, map_push, map-set, get_or-map, set-get_or, get_or-set_same, get_or-set_other}
+use Rattle.std.proofs.lemmas.Bool.{cases_lt, cases_eq, eq-eqb, ne_eqb, cond-true, cond-false}
 use Rattle.trace.specs.declared.clock.Clock.{Clock}
-use Rattle.trace.specs.Events.{most, by, number, total}
+use Rattle.trace.specs.declared.event.Event.{Event}
+use Rattle.trace.specs.declared.trace.Step.{Step}
+use Rattle.trace.specs.declared.trace.Ends.{Ends}
+use Rattle.trace.specs.Events.{most, event, by, number, total}
 use Rattle.trace.specs.Rules.{Valid}
-use Rattle.trace.specs.Clocks.{zeros, latest, mattern}
-use Rattle.trace.specs.Tables.{rows, slot, Indexed, SendsAt, ReceivesAt}
+use Rattle.trace.specs.Clocks.{zeros, latest, mattern, clock}
+use Rattle.trace.specs.Tables.{recorded, rows, listed, Indexed, Tabled, Keeps}
 use Rattle.trace.proofs.Counts.{count_le, count_mono, count_here, number_is, number_total, numbered}
-use Rattle.trace.proofs.Clocks.{find_last, length-clocks}
+use Rattle.trace.proofs.Clocks.{find_last}
 
-pub record Whole (n : ℕ) (es : List Event) (counts places sends receives : List ℕ) (cs : List (List ℕ)) : Type 0 where
-  pub valid : Valid n es
-  pub counted : (i : ℕ) → i < most → get_or counts i 0 ≡ total es i
-  pub indexed : Indexed es places
-  pub sends_at : SendsAt es sends
-  pub receives_at : ReceivesAt es receives
-  pub clocked : cs ≡ mattern es (length es)
+-- the items of the vector at a place
+pub listed_at : (places : List (Vec ℕ)) (i : ℕ) (xs : List ℕ) → i < length places → ((v : Vec ℕ) → (get_or places i v).items ≡ xs) → get_or (listed places) i [] ≡ xs
+listed_at [] i xs h is = absurd (omega arith)
+listed_at (v ∷ vs) zero xs h is = is v
+listed_at (v ∷ vs) (suc i) xs h is = listed_at vs i xs (omega arith) is
 
 -- no events
-pub whole_none : (n : ℕ) (es : List Event) (places sends receives : List ℕ) (cs : List (List ℕ)) → es ≡ [] → cs ≡ [] → Whole n es zeros places sends receives cs
-whole_none n es places sends receives cs none empty =
-    let short : length es ≡ 0 = ap length none in
+pub keeps_none : (n : ℕ) (steps : List Step) → steps ≡ [] → Keeps n (recorded steps)
+keeps_none n steps none =
+    let short : length (recorded steps) ≡ 0 = ap (λ x. length (recorded x)) none in
     record {
-      valid = record {
-        few = omega arith;
-        process = λ e h. absurd (omega arith);
-        receiver = λ s. absurd (omega (arith, s.within));
-        other = λ s _. omega (arith, s.within);
-        sent_once = λ s t _. absurd (omega (arith, s.within));
-        received_once = λ r q _. absurd (omega (arith, r.within));
-        sent_first = λ r. absurd (omega (arith, r.within));
-      };
-      counted = λ i h. get_or-replicate {A = ℕ} 16 i 0 0 h ∙ sym (ap (λ x. total x i) none);
+      short = omega arith;
+      process = λ e h. absurd (omega arith);
+      receiver = λ s. absurd (omega (arith, s.within));
+      other = λ s _. omega (arith, s.within);
+      sent_once = λ s t _. absurd (omega (arith, s.within));
+      received_once = λ r q _. absurd (omega (arith, r.within));
+      answers = λ r. absurd (omega (arith, r.within));
+    }
+
+pub tabled_none : (steps : List Step) (places : List (Vec ℕ)) (messages : List Ends) → steps ≡ [] → length places ≡ most →
+    ((i : ℕ) (v : Vec ℕ) → i < most → (get_or places i v).items ≡ []) → Tabled (recorded steps) (listed places) messages
+tabled_none steps places messages none long empty =
+    let short : length (recorded steps) ≡ 0 = ap (λ x. length (recorded x)) none in
+    record {
+      counted = λ i h. ap length (listed_at places i [] (omega arith) (λ v. empty i v h)) ∙ sym (ap (λ x. total (recorded x) i) none);
       indexed = λ e h. absurd (omega arith);
-      sends_at = λ s. absurd (omega (arith, s.within));
-      receives_at = λ r. absurd (omega (arith, r.within));
-      clocked = empty ∙ sym (ap (λ x. mattern x (length x)) none);
+      sent = λ e m h. absurd (omega arith);
+      received = λ e m h. absurd (omega arith);
     }
 
 -- a process with events is one of the processes
@@ -53,18 +58,14 @@ total_none n es v i h =
 pub total_few : (n : ℕ) (es : List Event) → Valid n es → (i : ℕ) → total es i ≤ 1024
 total_few n es v i = omega (arith, count_le es i (length es), v.few)
 
--- the slot of the h-th event of a process
-pub slot_is : (i h : ℕ) → 0 < h → i * 1024 + h - 1 ≡ slot i h
-slot_is i h pos = omega arith
-
--- what the table of places has there
-pub place_is : (n : ℕ) (es : List Event) (places : List ℕ) → Indexed es places → (i h e : ℕ) → 0 < h → h ≤ total es i → get_or places (slot i h) 0 ≡ e →
+-- what the table of places has of the h-th event of process i
+pub place_is : (n : ℕ) (es : List Event) (places : List (List ℕ)) → Indexed es places → (i h e : ℕ) → 0 < h → h ≤ total es i → get_or (get_or places i []) (h - 1) 0 ≡ e →
     (e < length es) × (by es e ≡ i) × (number es e ≡ h)
 place_is n es places indexed i h e pos le is =
     let x = numbered es (length es) i h pos le in
     let same : x.at ≡ e =
-    sym (indexed x.at x.within) ∙ ap (λ (j : ℕ). get_or places (slot j (number es x.at)) 0) x.of
-    ∙ ap (λ (k : ℕ). get_or places (slot i k) 0) x.is ∙ is in
+    sym (indexed x.at x.within) ∙ ap (λ (j : ℕ). get_or (get_or places j []) (number es x.at - 1) 0) x.of
+    ∙ ap (λ (k : ℕ). get_or (get_or places i []) (k - 1) 0) x.is ∙ is in
     subst (λ (y : ℕ). (y < length es) × (by es y ≡ i) × (number es y ≡ h)) same (x.within, x.of, x.is)
 
 -- the clock of a process's latest event
@@ -92,11 +93,29 @@ latest_none es cs i none =
     (λ l. l.is)
     (find_last es cs i (length es))
 
--- what is read from the table of clocks
-pub clocks_long : (es : List Event) (cs : List Clock) → rows cs ≡ mattern es (length es) → length cs ≡ length es
-clocks_long es cs table = sym (length-map cs (λ c. c.entries)) ∙ ap length table ∙ length-clocks es (length es)
+-- what is read from the steps
+pub length_recorded : (steps : List Step) → length (recorded steps) ≡ length steps
+length_recorded steps = length-map steps (λ s. s.event)
 
-pub clock_read : (es : List Event) (cs : List Clock) (e : ℕ) (c : Clock) → rows cs ≡ mattern es (length es) → e < length es → c ≡ get_or cs e c →
-    c.entries ≡ get_or (mattern es (length es)) e zeros
-clock_read es cs e c table h is =
-    ap (λ x. x.entries) is ∙ sym (get_or-map (λ x. x.entries) cs e c zeros (omega (arith, clocks_long es cs table))) ∙ ap (λ t. get_or t e zeros) table
+pub recorded_push : (steps steps' : List Step) (s : Step) → steps' ≡ steps ++ s ∷ [] → recorded steps' ≡ recorded steps ++ s.event ∷ []
+recorded_push steps steps' s is = ap recorded is ∙ map_push (λ x. x.event) steps s
+
+pub clock_read : (steps : List Step) (e : ℕ) (k : Clock) → rows steps ≡ mattern (recorded steps) (length (recorded steps)) → e < length steps → ((d : Step) → k ≡ (get_or steps e d).clock) →
+    k.entries ≡ clock (recorded steps) e
+clock_read steps e k table h is =
+    let none : Step = record { event = event [] 0; clock = record { entries = zeros; sized = refl } } in
+    ap (λ x. x.entries) (is none) ∙ sym (get_or-map (λ x. x.clock.entries) steps e none zeros h) ∙ ap (λ t. get_or t e zeros) table
+
+-- one field of the table of messages, where an entry is written
+module _ (f : Ends → ℕ) (messages : List Ends) (m : ℕ) (x : Ends) where
+  pub noted : m < length messages → (k : ℕ) → get_or (map f (set messages m x)) k 0 ≡ cond (eqb m k) (f x) (get_or (map f messages) k 0)
+  noted h k =
+      ap (λ xs. get_or xs k 0) (map-set f messages m x)
+      ∙ ⊎_elim
+      (λ e. subst (λ (j : ℕ). get_or (set (map f messages) m (f x)) j 0 ≡ cond (eqb m j) (f x) (get_or (map f messages) j 0)) e
+      (get_or-set_same (map f messages) m (f x) 0 (omega (arith, length-map messages f)) ∙ sym (cond-true _ _ _ (eq-eqb m m refl))))
+      (λ ne. get_or-set_other (map f messages) m k (f x) 0 (λ e. ne (sym e)) ∙ sym (cond-false _ _ _ (ne_eqb m k ne)))
+      (cases_eq m k)
+
+  pub unnoted : f x ≡ get_or (map f messages) m 0 → (k : ℕ) → get_or (map f (set messages m x)) k 0 ≡ get_or (map f messages) k 0
+  unnoted same k = ap (λ xs. get_or xs k 0) (map-set f messages m x ∙ ap (set (map f messages) m) same ∙ set-get_or (map f messages) m 0)

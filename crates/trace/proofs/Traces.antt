@@ -1,87 +1,102 @@
 -- What the fields of a trace say. Assumes nothing.
-use Rattle.std.proofs.Common.{◌≡◌, ℕ, ◌<◌, ◌≤◌, true, false, ltb, List, length, get_or, Some, None, Err, vec_items, Option, sym, refl, ap, ◌∙◌, subst, arith, Bor}
-use Rattle.std.specs.Option.{option_map}
-use Rattle.std.specs.Slice.{IsGetResult}
-use Rattle.std.proofs.lemmas.List.{get_or_read}
-use Rattle.std.proofs.lemmas.Bool.{ltb-true, ltb-false}
+use Rattle.std.proofs.Common.{◌≡◌, ℕ, ◌<◌, ◌≤◌, true, false, Bool, List, [], map, length, get_or, vec_len, vec_capacity, Option, MatchOption, Some, None, Err, sym, refl, ap, ◌∙◌, subst, ⊎_elim, arith}
+use Rattle.std.specs.Global.{Vec}
+use Rattle.std.specs.Option.{unwrap_or}
+use Rattle.std.proofs.lemmas.List.{length-map, get_or-map, get_or_past}
+use Rattle.std.proofs.lemmas.Bool.{cases_lt, both_ways, eq-eqb}
 use Rattle.trace.specs.declared.trace.Trace.{Trace}
-use Rattle.trace.specs.declared.event.Event.{Event}
-use Rattle.trace.specs.declared.event.Action.TheVariants.{Send, Receive}
-use Rattle.trace.specs.Events.{event, does, Sending, Receiving}
-use Rattle.trace.specs.Rules.{Valid}
-use Rattle.trace.specs.declared.event.EventFault.{EventFault}
+use Rattle.trace.specs.declared.trace.Step.{Step}
+use Rattle.trace.specs.declared.trace.Ends.{Ends}
 use Rattle.trace.specs.declared.clock.Clock.{Clock}
-use Rattle.trace.specs.Clocks.{Knows}
-use Rattle.trace.specs.Growth.{events, Refused, Pushed, ClockOf, ClockAt}
-use Rattle.trace.specs.Tables.{rows}
-use Rattle.trace.proofs.Sources.{sent_to}
-use Rattle.trace.proofs.Tables.{Whole, clocks_long, clock_read}
+use Rattle.trace.specs.declared.event.Event.{Event}
+use Rattle.trace.specs.declared.event.Action.{Action}
+use Rattle.trace.specs.declared.event.EventFault.{EventFault}
+use Rattle.trace.specs.Events.{does, total, sends, Sending, Receiving}
+use Rattle.trace.specs.Rules.{Valid}
+use Rattle.trace.specs.Clocks.{zeros, latest, mattern, clock, Knows}
+use Rattle.trace.specs.Tables.{listed, receives, Finds}
+use Rattle.trace.specs.Growth.{events, Refused, Pushed, ClockOf, ClockAt, NthAt, SenderAt, ReceiverAt}
+use Rattle.trace.proofs.Sources.{sends_is, sends_at, source_is, receives_is, valid_from}
+use Rattle.trace.proofs.Tables.{total_none, total_few, latest_at, latest_none, length_recorded, clock_read}
 use Rattle.trace.proofs.Known.{clock_knows}
 use Rattle.trace.proofs.Grown.{refused_not}
 
 -- a trace keeps its rules
 pub valid : (t : Trace) → Valid t.n (events t)
-valid t =
+valid t = valid_from t.n (events t) t.rules
+
+-- the list of places of a process is as long as it has events; there is none for a process that is not one of the 16
+pub counted : (t : Trace) (i : ℕ) → length (get_or (listed t.places) i []) ≡ total (events t) i
+counted t i =
+    ⊎_elim
+    (λ lt. t.tables.counted i lt)
+    (λ ge.
+    ap length (get_or_past (listed t.places) i [] (omega (arith, length-map t.places (λ v. v.items), t.sized.0)))
+    ∙ sym (total_none t.n (events t) (valid t) i (omega (arith, t.few))))
+    (cases_lt i 16)
+
+pub counted_few : (t : Trace) (i : ℕ) → length (get_or (listed t.places) i []) ≤ 1024
+counted_few t i = omega (arith, counted t i, total_few t.n (events t) (valid t) i)
+
+-- and it has room while the process has less than the most events
+pub room_left : (t : Trace) (p : ℕ) (v : Vec ℕ) → p < t.n → total (events t) p < 1024 → vec_len (get_or t.places p v) < vec_capacity (get_or t.places p v)
+room_left t p v own few =
+    let h : p < length t.places = omega (arith, t.few, t.sized.0) in
+    omega (arith, t.room.1 p v h, (get_or t.places p v).ok.0, ap length (get_or-map (λ x. x.items) t.places p v [] h), counted t p)
+
+-- a clock of an event, as a read has it
+pub clock_of : (t : Trace) (e : ℕ) (k : Clock) → e < length t.steps.items → ((d : Step) → k ≡ (get_or t.steps.items e d).clock) → ClockOf t e k
+clock_of t e k h is =
+    let rule : k.entries ≡ clock (events t) e = clock_read t.steps.items e k t.clocked h is in
+    let within : e < length (events t) = omega (arith, length_recorded t.steps.items) in
     record {
-      few = t.short;
-      process = t.process;
-      receiver = t.receiver;
-      other = t.other;
-      sent_once = t.sent_once;
-      received_once = t.received_once;
-      sent_first = sent_to (events t) t.answers;
-    }
-
--- and its tables
-pub whole : (t : Trace) → Whole t.n (events t) t.counts (vec_items t.places) (vec_items t.sends) (vec_items t.receives) (rows (vec_items t.clocks))
-whole t =
-    record { valid = valid t; counted = t.counted; indexed = t.indexed; sends_at = t.sends_at; receives_at = t.receives_at; clocked = t.clocked }
-
--- an event that was read
-pub event_read : (es xs : List Event) (e : ℕ) (x : Event) → xs ≡ es → e < length es → x ≡ get_or xs e x → x ≡ event es e
-event_read es xs e x same h is = get_or_read es e x h (is ∙ ap (λ ys. get_or ys e x) same) _
-
--- the only event that can send a message, or receive it, is at the place that the table has
-pub only_sender : (t : Trace) (m e : ℕ) → m < 65536 → e ≡ get_or (vec_items t.sends) m e → (s : Sending (events t)) → s.message ≡ m → s.at ≡ e
-only_sender t m e h is s same =
-    sym (t.sends_at s) ∙ ap (λ (k : ℕ). get_or (vec_items t.sends) k 0) same
-    ∙ sym (get_or_read (vec_items t.sends) m e (omega (arith, t.sized.2, t.sends.ok.0)) is 0)
-
-pub only_receiver : (t : Trace) (m e : ℕ) → m < 65536 → e ≡ get_or (vec_items t.receives) m e → (r : Receiving (events t)) → r.message ≡ m → r.at ≡ e
-only_receiver t m e h is r same =
-    sym (t.receives_at r) ∙ ap (λ (k : ℕ). get_or (vec_items t.receives) k 0) same
-    ∙ sym (get_or_read (vec_items t.receives) m e (omega (arith, t.sized.3, t.receives.ok.0)) is 0)
-
--- what a read of the clocks gives
-pub clock_of : (t : Trace) (e : ℕ) (c : Clock) → e < length (events t) → c ≡ get_or (vec_items t.clocks) e c → ClockOf t e c
-clock_of t e c h is =
-    let rule = clock_read (events t) (vec_items t.clocks) e c t.clocked h is in
-    record {
-      within = h;
+      within = within;
       rule = rule;
-      counts = λ j lt. subst (λ (row : List ℕ). Knows (events t) e j (get_or row j 0)) (sym rule) (clock_knows t.n (events t) (valid t) t.few e j h lt);
+      counts = λ j lt. subst (λ (row : List ℕ). Knows (events t) e j (get_or row j 0)) (sym rule) (clock_knows t.n (events t) (valid t) t.few e j within lt);
     }
 
-pub clock_found : (t : Trace) (e : ℕ) (cs : List Clock) (o : Option (Bor Clock)) → cs ≡ vec_items t.clocks → IsGetResult cs e e o → ClockAt t e (option_map (λ x. x.now) o)
-clock_found t e cs None same found = omega (arith, found.3, ap length same, clocks_long (events t) (vec_items t.clocks) t.clocked)
-clock_found t e cs (Some x) same found =
-    clock_of t e x.now (omega (arith, found.3.0, ap length same, clocks_long (events t) (vec_items t.clocks) t.clocked))
-    (found.1 ∙ ap (λ ys. get_or ys e x.now) same)
+pub clock_found : (t : Trace) (e : ℕ) (o : Option Clock) →
+    MatchOption o (length t.steps.items ≤ e) (λ k. (e < length t.steps.items) × ((d : Step) → k ≡ (get_or t.steps.items e d).clock)) → ClockAt t e o
+clock_found t e None found = omega (arith, length_recorded t.steps.items)
+clock_found t e (Some k) found = clock_of t e k found.0 found.1
 
--- what a read of the events gives
-pub action_read : (t : Trace) (xs : List Event) (e : ℕ) (x : Event) → xs ≡ events t → true ≡ ltb e (length xs) → x ≡ get_or xs e x → (e < length (events t)) × (x.action ≡ does (events t) e)
-action_read t xs e x same lt is =
-    let h : e < length (events t) = omega (arith, ltb-true e (length xs) (sym lt), ap length same) in
-    (h, ap (λ y. y.action) (event_read (events t) xs e x same h is))
+-- the clock of the last event of a process, as it is looked up
+pub latest_found : (t : Trace) (i h : ℕ) (e : Option ℕ) (k : Option Clock) (z : Clock) → h ≡ total (events t) i → NthAt t i h e → MatchOption e (k ≡ None) (λ x. ClockAt t x k) →
+    z.entries ≡ zeros → (unwrap_or k z).entries ≡ latest (events t) (mattern (events t) (length (events t))) i (length (events t))
+latest_found t i h None k z all none found is =
+    let no' : total (events t) i ≡ 0 = ⊎_elim (λ pos. absurd (none (omega arith) (omega arith))) (λ ge. omega arith) (cases_lt 0 (total (events t) i)) in
+    ap (λ x. (unwrap_or x z).entries) found ∙ is ∙ sym (latest_none (events t) (mattern (events t) (length (events t))) i no')
+latest_found t i h (Some e) None z all last found is = absurd (omega (arith, last.0))
+latest_found t i h (Some e) (Some k) z all last found is =
+    found.rule ∙ sym (latest_at (events t) (mattern (events t) (length (events t))) i e last.0 last.1 (last.2 ∙ all))
 
-pub past_end : (t : Trace) (xs : List Event) (e : ℕ) → xs ≡ events t → false ≡ ltb e (length xs) → length (events t) ≤ e
-past_end t xs e same no' = omega (arith, ltb-false e (length xs) (sym no'), ap length same)
+-- where a table of messages finds events, and the event at the place that it has is none, there is none
+missed : (t : Trace) (test : ℕ → Action → Bool) (f : Ends → ℕ) (m : ℕ) (x : Ends) → Finds test (events t) (map f t.messages.items) → m < 65536 → x ≡ get_or t.messages.items m x →
+    (f x < length (events t) → test m (does (events t) (f x)) ≡ false) → (e : ℕ) → e < length (events t) → test m (does (events t) e) ≡ true → ⊥
+missed t test f m x finds h is none e lt passes =
+    let at : e ≡ f x = sym (finds e m lt passes) ∙ get_or-map f t.messages.items m x 0 (omega (arith, t.sized.1, t.messages.ok.0)) ∙ sym (ap f is) in
+    both_ways _ (none (omega arith)) (ap (λ (k : ℕ). test m (does (events t) k)) (sym at) ∙ passes)
 
-pub sent_there : (t : Trace) (m e : ℕ) → m < 65536 → e ≡ get_or (vec_items t.sends) m e → (s : Sending (events t)) → s.message ≡ m → does (events t) e ≡ Send s.to m
-sent_there t m e h is s same = ap (does (events t)) (sym (only_sender t m e h is s same)) ∙ s.is ∙ ap (λ (k : ℕ). Send s.to k) same
+pub sender_found : (t : Trace) (m : ℕ) (x : Ends) (o : Option ℕ) → m < 65536 → x ≡ get_or t.messages.items m x →
+    MatchOption o (x.sent < length (events t) → sends m (does (events t) x.sent) ≡ false)
+    (λ e. (e ≡ x.sent) × (x.sent < length (events t)) × (sends m (does (events t) x.sent) ≡ true)) →
+    SenderAt t m o
+sender_found t m x None h is found = λ s same.
+    missed t sends (λ y. y.sent) m x t.tables.sent h is found s.at s.within (sends_at m s.to s.message _ s.is same)
+sender_found t m x (Some e) h is found =
+    let a = sends_is m (does (events t) x.sent) found.2 in
+    let s : Sending (events t) = record { at = x.sent; within = found.1; to = a.to; message = m; is = a.is } in
+    (found.0 ∙ sym (source_is (events t) t.rules.sent_once s), (s, refl, sym found.0))
 
-pub received_there : (t : Trace) (m e : ℕ) → m < 65536 → e ≡ get_or (vec_items t.receives) m e → (r : Receiving (events t)) → r.message ≡ m → does (events t) e ≡ Receive m
-received_there t m e h is r same = ap (does (events t)) (sym (only_receiver t m e h is r same)) ∙ r.is ∙ ap (λ (k : ℕ). Receive k) same
+pub receiver_found : (t : Trace) (m : ℕ) (x : Ends) (o : Option ℕ) → m < 65536 → x ≡ get_or t.messages.items m x →
+    MatchOption o (x.received < length (events t) → receives m (does (events t) x.received) ≡ false)
+    (λ e. (e ≡ x.received) × (x.received < length (events t)) × (receives m (does (events t) x.received) ≡ true)) →
+    ReceiverAt t m o
+receiver_found t m x None h is found = λ r same.
+    missed t receives (λ y. y.received) m x t.tables.received h is found r.at r.within (ap (receives m) r.is ∙ eq-eqb r.message m same)
+receiver_found t m x (Some e) h is found =
+    let r : Receiving (events t) = record { at = x.received; within = found.1; message = m; is = receives_is m _ found.2 } in
+    (r, refl, sym found.0)
 
 -- an event that is refused
 pub push_refused : (t : Trace) (ev : Event) (e : EventFault) → Refused t.n (events t) ev e → Pushed t ev (Err e) t

@@ -1,5 +1,5 @@
 -- A trace grows event by event. Assumes nothing.
-use Rattle.std.specs.Prelude.{◌≡◌, ℕ, ◌+◌, ◌<◌, ◌≤◌, Bool, false, ◌&&◌, List, [], ◌∷◌, ◌++◌, length, IfSome, Some, None, vec_items, Option, Result, MatchOption, MatchResult, OnErr, ◌==◌, ◌≢◌, nat_lt, slice_index, slice_index_or, slice_set}
+use Rattle.std.specs.Prelude.{◌≡◌, ℕ, ◌+◌, ◌<◌, ◌≤◌, Bool, false, ◌&&◌, List, [], ◌∷◌, ◌++◌, length, IfSome, Some, None, Option, Result, MatchOption, MatchResult, OnErr, ◌==◌, ◌≢◌, nat_lt, slice_index, slice_index_or, slice_set}
 use Rattle.trace.specs.declared.event.Event.{Event}
 use Rattle.trace.specs.declared.event.Action.{Action}
 use Rattle.trace.specs.declared.event.Action.TheVariants.{Local, Send, Receive}
@@ -9,11 +9,12 @@ use Rattle.trace.specs.declared.clock.Clock.{Clock}
 use Rattle.trace.specs.declared.trace.Trace.{Trace}
 use Rattle.trace.specs.Events.{most, longest, by, does, number, total, source, Sending, Receiving}
 use Rattle.trace.specs.Rules.{Valid}
+use Rattle.trace.specs.Tables.{recorded}
 use Rattle.trace.specs.Clocks.{zeros, merged, latest, mattern, clock, Knows}
 
 -- the events of a trace, in file order
 abbrev pub events : Trace → List Event
-events t = vec_items t.events
+events t = recorded t.steps.items
 
 -- a message rule that the action of process p breaks after these events
 pub data BreaksMessages (es : List Event) (p : ℕ) : Action → Type 0 where
@@ -69,9 +70,13 @@ abbrev pub taken_in : List (List ℕ) → Option ℕ → List ℕ → List ℕ
 taken_in cs None c = c
 taken_in cs (Some e) c = merged c (slice_index_or cs e zeros)
 
+-- the clock of the last of these events that is of process p, zeros if there is none
+abbrev pub last_clock : List Event → ℕ → List ℕ
+last_clock es p = latest es (mattern es (length es)) p (length es)
+
 -- the clock of the event after these, if it is of process p and receives what the event at a place sent
 abbrev pub ticked : List Event → ℕ → Option ℕ → List ℕ
-ticked es p sent = let cs = mattern es (length es) in slice_set (taken_in cs sent (latest es cs p (length es))) p (total es p + 1)
+ticked es p sent = slice_set (taken_in (mattern es (length es)) sent (last_clock es p)) p (total es p + 1)
 
 -- an event is taken, and the trace keeps the rules with it; or it is refused, since it would break one, and nothing changes
 pub record Pushed (t : Trace) (ev : Event) (r : Result (Unit {0}) EventFault) (u : Trace) : Type 0 where

@@ -1,6 +1,8 @@
 ghost use Rattle.std.specs.Prelude.{◌≡◌, ℕ, ◌<◌, ◌≤◌, max, length, replicate};
 ghost use Rattle.trace.specs.Clocks.{zeros, merged};
 
+use std::array;
+
 pub const PROCESSES: usize = 16;
 
 // A vector clock: an entry for each process.
@@ -23,8 +25,6 @@ impl Clock {
     pub fn merge(&mut self, other: &Clock)
         ensures { self.new.entries ≡ merged self.old.entries other.now.entries }
     {
-        for i in 0..PROCESSES {
-            self.entries[i] = self.entries[i].max(other.entries[i]);
-        }
+        self.entries = array::from_fn(|i| self.entries[i].max(other.entries[i]));
     }
 }

@@ -1,11 +1,13 @@
 ghost use Rattle.std.specs.Prelude.{◌≡◌, IfOk};
-ghost use Rattle.cuts.specs.Jobs.{Blank, Begun, Listed, Recorded, padded, listed};
+ghost use Rattle.cuts.specs.Jobs.{Blank, Begun, Listed, Recorded, padded};
 
 use crate::channel::Channel;
 use crate::fault::JobFault;
 use crate::job::{LISTED, TraceJob};
 use payload::wish::Wish;
 use std::alloc::{AllocError, Global};
+use std::array;
+use trace::clock::PROCESSES;
 use trace::event::{Action, Event};
 use trace::trace::Trace;
 
@@ -26,14 +28,11 @@ impl TraceJob {
     pub fn begin(&mut self, n: usize, watch: u16, wish: Wish) -> Result<(), JobFault>
         ensures { Begun n watch wish self.old result self.new }
     {
-        if n > 16 {
-            return Err(JobFault::Processes);
-        }
-        if n < 16 && watch >> n != 0 {
+        if n < PROCESSES && watch >> n != 0 {
             return Err(JobFault::Watch);
         }
+        self.trace.begin(n).map_err(|_| JobFault::Processes)?;
         self.channels.clear();
-        let _ = self.trace.begin(n);
         self.watch = watch;
         self.wish = wish;
         Ok(())
@@ -65,41 +64,12 @@ impl TraceJob {
             return Err(JobFault::Payload);
         }
         let payload = in_four(part);
-        match self.trace.push(Event {
+        self.trace.push(Event {
             process,
             action,
             payload,
-        }) {
-            Ok(()) => Ok(()),
-            Err(fault) => Err(JobFault::Event(fault)),
-        }
-    }
-
-    pub fn wish(&self) -> Wish
-        ensures { result ≡ self.now.wish }
-    {
-        let TraceJob { wish, .. } = self;
-        *wish
-    }
-
-    // The watched processes, by their bits.
-    pub fn watch(&self) -> u16
-        ensures { result ≡ self.now.watch }
-    {
-        let TraceJob { watch, .. } = self;
-        *watch
-    }
-
-    pub fn trace(&self) -> &Trace
-        ensures { result.now ≡ self.now.trace }
-    {
-        &self.trace
-    }
-
-    pub fn channels(&self) -> &[Channel]
-        ensures { result.now ≡ listed self.now }
-    {
-        self.channels.as_slice()
+        })?;
+        Ok(())
     }
 }
 
@@ -107,8 +77,5 @@ impl TraceJob {
 fn in_four(part: &[u8]) -> [u8; 4]
     ensures { result ≡ padded part.now }
 {
-    let mut bytes = [0; 4];
-    let width = part.len().min(4);
-    bytes[..width].copy_from_slice(&part[..width]);
-    bytes
+    array::from_fn(|i| part.get(i).copied().unwrap_or(0))
 }

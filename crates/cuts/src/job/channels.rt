@@ -1,14 +1,17 @@
-ghost use Rattle.std.specs.Prelude.{◌≡◌, ℕ, ◌<◌, ◌≤◌, length, MatchOption};
+ghost use Rattle.std.specs.Prelude.{◌≡◌, ℕ, ◌+◌, ◌<◌, ◌≤◌, false, MatchOption};
 ghost use Rattle.lattice.specs.Order.{at};
 ghost use Rattle.trace.specs.Events.{total, does, nth};
-ghost use Rattle.cuts.specs.Channels.{Level, levels, Reaches};
-ghost use Rattle.cuts.specs.Sides.{asks, tallied, sent_from, lift_or};
+ghost use Rattle.cuts.specs.Cuts.{beyond};
+ghost use Rattle.cuts.specs.Channels.{Level, levels, lifted_to, Reaches};
+ghost use Rattle.cuts.specs.Sides.{asks, tallied, sent_from};
 ghost use Rattle.cuts.specs.Jobs.{processes, happened, channels_reply, ChannelsSays};
 
 use crate::channel::{Channel, Side, Way};
 use crate::job::TraceJob;
+use crate::job::lift::lift_to;
 use lattice::condition::Reply;
 use lattice::vector::Vector;
+use std::cmp::Ordering;
 use trace::event::Action;
 
 impl TraceJob {
@@ -16,28 +19,20 @@ impl TraceJob {
     fn is_on(&self, side: Side, number: u32) -> bool
         ensures { result ≡ asks (happened self.now) side (does (happened self.now) (nth (happened self.now) side.place number)) }
     {
-        let Some(place) = self.trace.nth(side.place, number) else {
-            return false;
-        };
-        match self.trace.event(place) {
-            Some(event) => self.deals(side, event.action),
-            None => false,
-        }
+        self.trace
+            .nth(side.place, number)
+            .and_then(|place| self.trace.event(place))
+            .is_some_and(|event| self.deals(side, event.action))
     }
 
     // Whether an action sends to the other process, or receives from it.
     fn deals(&self, side: Side, action: Action) -> bool
         ensures { result ≡ asks (happened self.now) side action }
     {
-        match side.way {
-            Way::To => match action {
-                Action::Send { to, .. } => to == side.other,
-                _ => false,
-            },
-            Way::From => match action {
-                Action::Receive { message } => self.is_from(message, side.other),
-                _ => false,
-            },
+        match (side.way, action) {
+            (Way::To, Action::Send { to, .. }) => to == side.other,
+            (Way::From, Action::Receive { message }) => self.is_from(message, side.other),
+            _ => false,
         }
     }
 
@@ -45,44 +40,40 @@ impl TraceJob {
     fn is_from(&self, message: u16, process: u8) -> bool
         ensures { result ≡ sent_from (happened self.now) message process }
     {
-        let Some(place) = self.trace.sender(message) else {
-            return false;
-        };
-        match self.trace.event(place) {
-            Some(event) => event.process == process,
-            None => false,
-        }
+        self.trace
+            .sender(message)
+            .and_then(|place| self.trace.event(place))
+            .is_some_and(|event| event.process == process)
     }
 
     // How many of the first events of the side's process are on the side.
     fn tally(&self, side: Side, height: u32) -> u32
         ensures { result ≡ tallied (happened self.now) side height }
     {
-        let mut tally = 0;
-        for before in 0..height {
-            if self.is_on(side, before + 1) {
-                tally += 1;
-            }
-        }
-        tally
+        (0..height)
+            .filter(|before| self.is_on(side, *before + 1))
+            .count() as u32
     }
 
-    // The least height, from this one with its tally on, at which the side reaches the count.
-    fn reach(&self, side: Side, from: u32, tally: u32, count: u32) -> Option<u32>
-        requires tally_value { tally ≡ tallied (happened self.now) side from }
-        requires tally_lt_count { tally < count }
-        ensures { MatchOption result ((k : ℕ) → k ≤ total (happened self.now) side.place → tallied (happened self.now) side k < count) (λ q. Reaches (happened self.now) (tallied (happened self.now) side) side.place count q) }
+    // The least height at which so many more events are on the side than at this one.
+    fn reach(&self, side: Side, from: u32, missing: u32) -> Option<u32>
+        requires { 0 < missing }
+        ensures { MatchOption result
+            ((k : ℕ) → k ≤ total (happened self.now) side.place → tallied (happened self.now) side k < tallied (happened self.now) side from + missing)
+            (λ q. Reaches (happened self.now) (tallied (happened self.now) side) side.place (tallied (happened self.now) side from + missing) q) }
     {
-        let mut tally = tally;
-        for before in from..self.trace.total(side.place) {
-            if self.is_on(side, before + 1) {
-                tally += 1;
-                if tally == count {
-                    return Some(before + 1);
-                }
-            }
-        }
-        None
+        (from..self.trace.total(side.place))
+            .map(|before| before + 1)
+            .filter(|number| self.is_on(side, *number))
+            .nth(missing as usize - 1)
+    }
+
+    // The lift of the side's process from a height to where so many more events are on the side.
+    fn lift(&self, side: Side, from: u32, missing: u32) -> Reply
+        requires { 0 < missing }
+        ensures { result ≡ lifted_to (happened self.now) (tallied (happened self.now) side) side.place from (tallied (happened self.now) side from + missing) }
+    {
+        lift_to(side.place, self.reach(side, from, missing))
     }
 
     // The reply on one channel, if its counts are unequal: the side that is behind is lifted to where it reaches the other.
@@ -105,19 +96,23 @@ impl TraceJob {
         let at_receiver = v.heights()[receiving.place];
         let sent = self.tally(sending, at_sender);
         let received = self.tally(receiving, at_receiver);
-        if sent < received {
-            Some(lift_to(
-                sending.place,
-                self.reach(sending, at_sender, sent, received),
-            ))
-        } else if received < sent {
-            Some(lift_to(
-                receiving.place,
-                self.reach(receiving, at_receiver, received, sent),
-            ))
-        } else {
-            None
+        match sent.cmp(&received) {
+            Ordering::Less => Some(self.lift(sending, at_sender, received - sent)),
+            Ordering::Equal => None,
+            Ordering::Greater => Some(self.lift(receiving, at_receiver, sent - received)),
         }
+    }
+
+    // The reply to a vector within the events: that on the first listed channel on which the counts are unequal.
+    fn lift_uneven(&self, v: &Vector) -> Reply
+        ensures { beyond (processes self.now) (happened self.now) (at v.now) ≡ false → result ≡ channels_reply self.now v.now }
+    {
+        for channel in &self.channels {
+            if let Some(reply) = self.level(channel, v) {
+                return reply;
+            }
+        }
+        Reply::Holds
     }
 
     // The reply of the channels condition.
@@ -125,23 +120,6 @@ impl TraceJob {
         ensures is { result ≡ channels_reply self.now v.now }
         ensures says { ChannelsSays self.now v.now result }
     {
-        if self.is_beyond(v) {
-            return Reply::Never;
-        }
-        for channel in self.channels.iter() {
-            if let Some(reply) = self.level(channel, v) {
-                return reply;
-            }
-        }
-        Reply::Holds
-    }
-}
-
-fn lift_to(place: usize, height: Option<u32>) -> Reply
-    ensures { result ≡ lift_or place height }
-{
-    match height {
-        Some(height) => Reply::Lift((place, height)),
-        None => Reply::Never,
+        self.unless_beyond(v, || self.lift_uneven(v))
     }
 }

@@ -1,8 +1,11 @@
-ghost use Rattle.std.specs.Prelude.{◌≡◌, ℕ, ◌/◌, ◌%◌, ◌^◌, ◌<◌, Bool, ◌==◌};
-ghost use Rattle.cuts.specs.Watched.{state_wanted};
+ghost use Rattle.std.specs.Prelude.{◌≡◌, ℕ, ◌/◌, ◌%◌, ◌^◌, ◌<◌, Bool, false, ◌==◌, MatchOption};
+ghost use Rattle.lattice.specs.Order.{at};
+ghost use Rattle.cuts.specs.Cuts.{beyond};
+ghost use Rattle.cuts.specs.Watched.{state_wanted, unwanted, LowestUnwanted};
 ghost use Rattle.cuts.specs.Jobs.{processes, happened, watched_reply, WatchedSays, NextWanted};
 
 use crate::job::TraceJob;
+use crate::job::lift::lift_to;
 use lattice::condition::Reply;
 use lattice::vector::Vector;
 
@@ -19,25 +22,39 @@ impl TraceJob {
     fn is_wanted(&self, process: usize, height: u32) -> bool
         ensures { result ≡ state_wanted (happened self.now) self.now.wish process height }
     {
-        let Some(place) = self.trace.nth(process, height) else {
-            return false;
-        };
-        match self.trace.event(place) {
-            Some(event) => self.wish.marks(&event.payload),
-            None => false,
-        }
+        self.trace
+            .nth(process, height)
+            .and_then(|place| self.trace.event(place))
+            .is_some_and(|event| self.wish.marks(&event.payload))
     }
 
     // The least wanted height of a process above this one.
     pub fn next_wanted(&self, process: usize, height: u32) -> Option<u32>
         ensures { NextWanted self.now process height result }
     {
-        for before in height..self.trace.total(process) {
-            if self.is_wanted(process, before + 1) {
-                return Some(before + 1);
-            }
+        (height..self.trace.total(process))
+            .map(|before| before + 1)
+            .find(|later| self.is_wanted(process, *later))
+    }
+
+    // The lowest watched place in an unwanted state.
+    fn lowest_unwanted(&self, v: &Vector) -> Option<usize>
+        ensures { MatchOption result
+            ((i : ℕ) → i < processes self.now → unwanted (happened self.now) self.now.wish self.now.watch (at v.now) i ≡ false)
+            (λ i. LowestUnwanted (processes self.now) (happened self.now) self.now.wish self.now.watch (at v.now) i) }
+    {
+        (0..self.trace.processes()).find(|i| self.watches(*i)
+            && !self.is_wanted(*i, v.heights()[*i]))
+    }
+
+    // The reply to a vector within the events.
+    fn lift_unwanted(&self, v: &Vector) -> Reply
+        ensures { beyond (processes self.now) (happened self.now) (at v.now) ≡ false → WatchedSays self.now v.now result }
+    {
+        match self.lowest_unwanted(v) {
+            Some(i) => lift_to(i, self.next_wanted(i, v.heights()[i])),
+            None => Reply::Holds,
         }
-        None
     }
 
     // The reply of the watched condition.
@@ -45,18 +62,6 @@ impl TraceJob {
         ensures is { result ≡ watched_reply self.now v.now }
         ensures says { WatchedSays self.now v.now result }
     {
-        if self.is_beyond(v) {
-            return Reply::Never;
-        }
-        for i in 0..self.trace.processes() {
-            let height = v.heights()[i];
-            if self.watches(i) && !self.is_wanted(i, height) {
-                return match self.next_wanted(i, height) {
-                    Some(later) => Reply::Lift((i, later)),
-                    None => Reply::Never,
-                };
-            }
-        }
-        Reply::Holds
+        self.unless_beyond(v, || self.lift_unwanted(v))
     }
 }

@@ -49,22 +49,20 @@ fn the_sample_cuts(rt: HostRuntime) -> Result<(), Fail> {
 }
 
 // The first two entries of the clock at a place.
-fn clock_at(job: &TraceJob, at: usize) -> (u32, u32) {
-    match job.trace().clock(at) {
-        Some(clock) => (clock.entries[0], clock.entries[1]),
-        None => (99, 99),
-    }
+fn clock_at(job: &TraceJob, at: usize) -> Option<(u32, u32)> {
+    let clock = job.trace().clock(at)?;
+    Some((clock.entries[0], clock.entries[1]))
 }
 
 #[test]
 fn the_sample_clocks(rt: HostRuntime) -> Result<(), Fail> {
     let mut job = TraceJob::new(rt.alloc())?;
     assert!(rt; record(&mut job, 5, true).is_ok());
-    assert_eq!(rt; clock_at(&job, 0), (1, 0));
-    assert_eq!(rt; clock_at(&job, 1), (0, 1));
-    assert_eq!(rt; clock_at(&job, 2), (1, 2));
-    assert_eq!(rt; clock_at(&job, 3), (1, 3));
-    assert!(rt; job.trace().clock(4).is_none());
+    assert_eq!(rt; clock_at(&job, 0), Some((1, 0)));
+    assert_eq!(rt; clock_at(&job, 1), Some((0, 1)));
+    assert_eq!(rt; clock_at(&job, 2), Some((1, 2)));
+    assert_eq!(rt; clock_at(&job, 3), Some((1, 3)));
+    assert_eq!(rt; clock_at(&job, 4), None);
     Ok(())
 }
 

@@ -1,11 +1,13 @@
-ghost use Rattle.std.specs.Prelude.{◌≡◌, ◌<◌, [], length, IfOk};
-ghost use Rattle.trace.specs.Growth.{events, Pushed, Begun, Judged, Within, names_at, ticked};
-ghost use Rattle.trace.specs.Events.{longest};
+ghost use Rattle.std.specs.Prelude.{◌≡◌, ℕ, ◌<◌, [], length, slice_index, if◌then◌else◌, IfOk};
+ghost use Rattle.trace.specs.Growth.{events, Pushed, Begun, Judged, Within, names_at, ticked, last_clock};
+ghost use Rattle.trace.specs.Events.{sends};
+ghost use Rattle.trace.specs.Tables.{receives, sent_at, received_at};
 
 use crate::clock::{Clock, PROCESSES};
 use crate::event::{Action, Event, EventFault};
-use crate::trace::{LONGEST, MESSAGES, Trace};
+use crate::trace::{Ends, LONGEST, MESSAGES, Step, Trace};
 use std::alloc::{AllocError, Global};
+use std::array;
 
 impl Trace {
     // A trace without processes and events. All memory that a trace can come to need is asked for here.
@@ -14,12 +16,12 @@ impl Trace {
     {
         Ok(Trace {
             n: 0,
-            events: Vec::with_capacity(heap, LONGEST)?,
-            clocks: Vec::with_capacity(heap, LONGEST)?,
-            counts: [0; PROCESSES],
-            places: vec![in heap; 0; PROCESSES * LONGEST]?,
-            sends: vec![in heap; 0; MESSAGES]?,
-            receives: vec![in heap; 0; MESSAGES]?,
+            steps: Vec::with_capacity(heap, LONGEST)?,
+            places: array::try_from_fn(|_| Vec::with_capacity(heap, LONGEST))?,
+            messages: vec![in heap; Ends {
+                sent: 0,
+                received: 0
+            }; MESSAGES]?,
         })
     }
 
@@ -31,9 +33,10 @@ impl Trace {
             return Err(EventFault::Process);
         }
         self.n = n;
-        self.events.clear();
-        self.clocks.clear();
-        self.counts = [0; PROCESSES];
+        self.steps.clear();
+        for places in &mut self.places {
+            places.clear();
+        }
         Ok(())
     }
 
@@ -42,18 +45,12 @@ impl Trace {
         ensures { Pushed self.old event result self.new }
     {
         let sent = self.judge(&event)?;
-        let clock = self.tick(event.process as usize, sent);
-        let at = self.events.len();
         let process = event.process as usize;
-        match event.action {
-            Action::Local => {}
-            Action::Send { message, .. } => self.sends[message as usize] = at as u16,
-            Action::Receive { message } => self.receives[message as usize] = at as u16,
-        }
-        self.places[process * LONGEST + self.counts[process] as usize] = at as u16;
-        self.counts[process] += 1;
-        self.events.push_reserved(event);
-        self.clocks.push_reserved(clock);
+        let clock = self.tick(process, sent);
+        let at = self.steps.len() as u16;
+        self.places[process].push_reserved(at);
+        self.steps.push_reserved(Step { event, clock });
+        note(&mut self.messages, event.action, at);
         Ok(())
     }
 
@@ -61,7 +58,7 @@ impl Trace {
     fn judge(&self, event: &Event) -> Result<Option<usize>, EventFault>
         ensures { Judged self.now event.now result }
     {
-        if self.events.len() >= LONGEST {
+        if self.len() >= LONGEST {
             return Err(EventFault::Full);
         }
         if event.process as usize >= self.n {
@@ -79,9 +76,7 @@ impl Trace {
                 Ok(None)
             }
             Action::Receive { message } => {
-                let Some(sent) = self.sender(message) else {
-                    return Err(EventFault::Message);
-                };
+                let sent = self.sender(message).ok_or(EventFault::Message)?;
                 if !self.names(sent, event.process) || self.receiver(message).is_some() {
                     return Err(EventFault::Message);
                 }
@@ -94,31 +89,45 @@ impl Trace {
     fn names(&self, at: usize, process: u8) -> bool
         ensures { result ≡ names_at (events self.now) at process }
     {
-        match self.events.get(at) {
-            Some(event) => match event.action {
-                Action::Send { to, .. } => to == process,
-                _ => false,
-            },
-            None => false,
-        }
+        self.event(at).is_some_and(
+            |event| matches!(event.action, Action::Send { to, .. } if to == process),
+        )
     }
 
     // The clock of the next event, of this process, which receives what the event at `sent` sent.
     fn tick(&self, process: usize, sent: Option<usize>) -> Clock
         requires process_lt_n { process < self.now.n }
         requires within { Within (events self.now) sent }
-        requires self_len_bound { length (events self.now) < longest }
         ensures { result.entries ≡ ticked (events self.now) process sent }
     {
-        let number = self.counts[process];
-        let mut clock = match self.nth(process, number) {
-            Some(last) => self.clocks[last],
-            None => Clock::zero(),
-        };
+        let mut clock = self.latest(process);
         if let Some(sent) = sent {
-            clock.merge(&self.clocks[sent]);
+            clock.merge(&self.steps[sent].clock);
         }
-        clock.entries[process] = number + 1;
+        clock.entries[process] = self.total(process) + 1;
         clock
+    }
+
+    // The clock of the last event of a process, zeros if it has none.
+    fn latest(&self, process: usize) -> Clock
+        ensures { result.entries ≡ last_clock (events self.now) process }
+    {
+        self.nth(process, self.total(process))
+            .and_then(|last| self.clock(last))
+            .unwrap_or(Clock::zero())
+    }
+}
+
+// Writes down the place of an event that sends or receives a message.
+fn note(messages: &mut [Ends], action: Action, at: u16)
+    requires { length messages.old ≡ 65536 }
+    ensures long { length messages.new ≡ length messages.old }
+    ensures sent { (m : ℕ) → slice_index (sent_at messages.new) m ≡ (if sends m action then at else slice_index (sent_at messages.old) m) }
+    ensures received { (m : ℕ) → slice_index (received_at messages.new) m ≡ (if receives m action then at else slice_index (received_at messages.old) m) }
+{
+    match action {
+        Action::Local => {}
+        Action::Send { message, .. } => messages[message as usize].sent = at,
+        Action::Receive { message } => messages[message as usize].received = at,
     }
 }

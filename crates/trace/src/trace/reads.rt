@@ -1,4 +1,4 @@
-ghost use Rattle.std.specs.Prelude.{◌≡◌, ℕ, ◌<◌, ◌≤◌, length, MatchOption};
+ghost use Rattle.std.specs.Prelude.{◌≡◌, ℕ, ◌<◌, ◌≤◌, length, false, true, MatchOption};
 ghost use Rattle.trace.specs.Events.{most, total, event as event_at};
 ghost use Rattle.trace.specs.Clocks.{entry, Knows};
 ghost use Rattle.trace.specs.Rules.{Valid};
@@ -6,7 +6,7 @@ ghost use Rattle.trace.specs.Growth.{events, ClockAt, NthAt, SenderAt, ReceiverA
 
 use crate::clock::Clock;
 use crate::event::{Action, Event};
-use crate::trace::{LONGEST, Trace};
+use crate::trace::Trace;
 
 impl Trace {
     // How many processes there are.
@@ -20,69 +20,68 @@ impl Trace {
     pub fn len(&self) -> usize
         ensures { result ≡ length (events self.now) }
     {
-        self.events.len()
+        self.steps.len()
     }
 
     // The event at a place of the file order.
     pub fn event(&self, at: usize) -> Option<Event>
         ensures { MatchOption result (length (events self.now) ≤ at) (λ e. (at < length (events self.now)) × (e ≡ event_at (events self.now) at)) }
     {
-        self.events.get(at).copied()
+        self.steps.get(at).map(|step| step.event)
     }
 
     // The vector clock of the event at a place: how many events of each process happened before it or are it.
     pub fn clock(&self, at: usize) -> Option<Clock>
         ensures { ClockAt self.now at result }
     {
-        self.clocks.get(at).copied()
+        self.steps.get(at).map(|step| step.clock)
     }
 
     // How many events a process has.
     pub fn total(&self, process: usize) -> u32
         ensures { result ≡ total (events self.now) process }
     {
-        match self.counts.get(process) {
-            Some(count) => *count,
-            None => 0,
-        }
+        self.places.get(process).map_or(0, |places| places.len()) as u32
     }
 
     // The place of the event of a process with this number, counted from 1.
     pub fn nth(&self, process: usize, number: u32) -> Option<usize>
         ensures { NthAt self.now process number result }
     {
-        if number == 0 || number > self.total(process) {
-            return None;
-        }
-        Some(self.places[process * LONGEST + number as usize - 1] as usize)
+        let index = (number as usize).checked_sub(1)?;
+        let at = self.places.get(process)?.get(index)?;
+        Some(*at as usize)
     }
 
     // The place of the event that sends a message.
     pub fn sender(&self, message: u16) -> Option<usize>
         ensures { SenderAt self.now message result }
     {
-        let at = self.sends[message as usize] as usize;
-        match self.events.get(at) {
-            Some(event) => match event.action {
-                Action::Send { message: sent, .. } if sent == message => Some(at),
-                _ => None,
-            },
-            None => None,
-        }
+        self.found(
+            self.messages[message as usize].sent,
+            |event| matches!(event.action, Action::Send { message: sent, .. } if sent == message),
+        )
     }
 
     // The place of the event that receives a message.
     pub fn receiver(&self, message: u16) -> Option<usize>
         ensures { ReceiverAt self.now message result }
     {
-        let at = self.receives[message as usize] as usize;
-        match self.events.get(at) {
-            Some(event) => match event.action {
-                Action::Receive { message: received } if received == message => Some(at),
-                _ => None,
-            },
-            None => None,
-        }
+        self.found(
+            self.messages[message as usize].received,
+            |event| matches!(event.action, Action::Receive { message: received } if received == message),
+        )
+    }
+
+    // The place that a table has, if the event there is as wanted.
+    fn found<F: FnOnce(Event) -> bool>(&self, at: u16, wanted: F) -> Option<usize>
+        requires { F.IsAlwaysCallable wanted }
+        ensures { MatchOption result
+            (at < length (events self.now) → F.post wanted (event_at (events self.now) at) false)
+            (λ e. (e ≡ at) × (at < length (events self.now)) × F.post wanted (event_at (events self.now) at) true) }
+    {
+        let at = at as usize;
+        self.event(at).is_some_and(wanted).then_some(at)
     }
 
     // A trace keeps its rules at all times, and the clocks count what happened before.

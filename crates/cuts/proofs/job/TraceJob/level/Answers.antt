@@ -1,32 +1,26 @@
-use Rattle.std.proofs.Common.{◌≡◌, ℕ, get_or, sym, ap, ◌∙◌, subst, arith, MatchOption}
+use Rattle.std.proofs.Common.{◌≡◌, ◌-◌, ◌<◌, get_or, ap, arith, rules, tests}
 use Rattle.lattice.specs.Order.{at}
 use Rattle.cuts.specs.Jobs.{happened}
-use Rattle.cuts.specs.Channels.{sent, received, Reaches}
-use Rattle.cuts.specs.Tallies.{Short}
-use Rattle.cuts.specs.Levels.{lifts_sender, lifts_receiver}
+use Rattle.cuts.specs.Channels.{sent, received}
+use Rattle.cuts.proofs.Levelling.{sender_lifted, receiver_lifted}
 use Rattle.cuts.proofs.job.TraceJob.level.Goals as goal
 
-pub returns-then-sent-received : goal.returns-then-sent-received
-returns-then-sent-received c =
+pub returns-in-Less : goal.returns-in-Less
+returns-in-Less c =
     let es = happened c.args.self.now in
     let ch = c.args.channel.now in
     let h = at c.args.v.now in
-    let s : c.tally-sent.result ≡ sent es ch (h ch.sender) = c.tally-sent.ensures ∙ ap (λ hs. sent es ch (get_or hs ch.sender 0)) c.heights.ensures in
-    let r : c.tally-received.result ≡ received es ch (h ch.receiver) = c.tally-received.ensures ∙ ap (λ hs. received es ch (get_or hs ch.receiver 0)) c.heights-2.ensures in (
-      λ l. omega arith,
-      c.lift_to.ensures ∙ sym (lifts_sender es ch h c.reach.result (omega arith)
-          (subst (λ (x : ℕ). MatchOption c.reach.result (Short es (sent es ch) ch.sender x) (λ q. Reaches es (sent es ch) ch.sender x q)) r c.reach.ensures)),
-    )
+    let from : get_or c.heights.result.now ch.sender 0 ≡ h ch.sender = ap (λ hs. get_or hs ch.sender 0) c.heights.ensures in
+    let other = ap (λ hs. received es ch (get_or hs ch.receiver 0)) c.heights-2.ensures in
+    let fewer : c.tally-sent.result < c.tally-received.result = search (rules, tests) in
+    sender_lifted es ch h _ (c.tally-received.result - c.tally-sent.result) c.lift.result from (omega (arith, c.tally-sent.ensures, c.tally-received.ensures)) (omega arith) c.lift.ensures
 
-pub returns-then-received-sent : goal.returns-then-received-sent
-returns-then-received-sent c =
+pub returns-in-Greater : goal.returns-in-Greater
+returns-in-Greater c =
     let es = happened c.args.self.now in
     let ch = c.args.channel.now in
     let h = at c.args.v.now in
-    let s : c.tally-sent.result ≡ sent es ch (h ch.sender) = c.tally-sent.ensures ∙ ap (λ hs. sent es ch (get_or hs ch.sender 0)) c.heights.ensures in
-    let r : c.tally-received.result ≡ received es ch (h ch.receiver) = c.tally-received.ensures ∙ ap (λ hs. received es ch (get_or hs ch.receiver 0)) c.heights-2.ensures in
-    let o = c.reach-then-received-sent.result in (
-      λ l. omega arith,
-      c.lift_to-then-received-sent.ensures ∙ sym (lifts_receiver es ch h o (omega arith)
-          (subst (λ (x : ℕ). MatchOption o (Short es (received es ch) ch.receiver x) (λ q. Reaches es (received es ch) ch.receiver x q)) s c.reach-then-received-sent.ensures)),
-    )
+    let from : get_or c.heights-2.result.now ch.receiver 0 ≡ h ch.receiver = ap (λ hs. get_or hs ch.receiver 0) c.heights-2.ensures in
+    let other = ap (λ hs. sent es ch (get_or hs ch.sender 0)) c.heights.ensures in
+    let fewer : c.tally-received.result < c.tally-sent.result = search (rules, tests) in
+    receiver_lifted es ch h _ (c.tally-sent.result - c.tally-received.result) c.lift-in-Greater.result from (omega (arith, c.tally-sent.ensures, c.tally-received.ensures)) (omega arith) c.lift-in-Greater.ensures

@@ -1,5 +1,6 @@
-use Rattle.std.proofs.Common.{◌≡◌, length, sym, refl, ◌∙◌}
+use Rattle.std.proofs.Common.{◌≡◌, length, Err, sym, refl, ◌∙◌, rules}
 use Rattle.payload.specs.Marks.{width_of}
+use Rattle.cuts.specs.declared.fault.JobFault.TheVariants.{Event as Refuses}
 use Rattle.cuts.specs.Jobs.{padded, no_payload, refused}
 use Rattle.cuts.proofs.Padding.{length-padded}
 use Rattle.cuts.proofs.SameJob.{same_job}
@@ -15,9 +16,9 @@ returns-then-part-width c =
       exactly = λ same _. other same;
     }
 
-pub returns-in-Ok : goal.returns-in-Ok
-returns-in-Ok c =
-    let e = c.in-Ok.ensures in
+pub returns : goal.returns
+returns c =
+    let e = c.in_ok-push.ensures in
     record {
       event = _;
       is = record { process_is = refl; action_is = refl; payload_is = c.in_four-payload.ensures };
@@ -25,12 +26,14 @@ returns-in-Ok c =
       exactly = λ _ _. tt;
     }
 
-pub returns-in-Err : goal.returns-in-Err
-returns-in-Err c =
-    let e = c.in-Err.ensures in
-    record {
+pub returns-in_err-push : goal.returns-in_err-push
+returns-in_err-push c =
+    let e = c.in_err-push.ensures in
+    let is : c.from_residual.result ≡ Err (Refuses c.in_err-push.field-0.0) = search rules in
+    rw is
+    (record {
       event = _;
       is = record { process_is = refl; action_is = refl; payload_is = c.in_four-payload.ensures };
       outcome = (refused (c.if-part-width.false ∙ c.width.ensures) e.outcome.0, same_job _ c.args.self.now e.outcome.1 refl refl refl);
       exactly = λ _ valid. e.exactly valid;
-    }
+    })

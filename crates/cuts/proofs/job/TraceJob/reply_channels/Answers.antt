@@ -1,52 +1,24 @@
-use Rattle.std.proofs.Common.{◌≡◌, List, length, sym, ap, ◌∙◌, subst, arith, below_more}
+use Rattle.std.proofs.Common.{◌≡◌, sym, ◌∙◌, subst, rules}
 use Rattle.lattice.specs.Order.{at}
-use Rattle.lattice.specs.declared.vector.Vector.{Vector}
-use Rattle.lattice.specs.declared.condition.Reply.{Reply}
-use Rattle.lattice.specs.declared.condition.Reply.TheVariants.{Holds, Never}
-use Rattle.cuts.specs.declared.channel.Channel.{Channel}
-use Rattle.cuts.specs.declared.job.TraceJob.{TraceJob}
-use Rattle.cuts.specs.Channels.{channel, Level, levels}
+use Rattle.cuts.specs.Cuts.{beyond}
 use Rattle.cuts.specs.Jobs.{processes, happened, listed, channels_reply, ChannelsSays}
-use Rattle.cuts.specs.Levels.{reply_beyond, reply_uneven, reply_level}
+use Rattle.cuts.specs.Levels.{reply_beyond}
 use Rattle.cuts.specs.Emptied.{channels_say}
+use Rattle.cuts.proofs.Found.{bool_then}
 use Rattle.cuts.proofs.job.TraceJob.reply_channels.Goals as goal
+use Rattle.cuts.proofs.job.TraceJob.reply_channels.Goals.{After-unless_beyond}
 
--- the reply, with what it says
-told : (j : TraceJob) (v : Vector) (r : Reply) → channels_reply j v ≡ r → record { is : r ≡ channels_reply j v; says : ChannelsSays j v r }
-told j v r e = record { is = sym e; says = subst (ChannelsSays j v) e (channels_say (processes j) (happened j) (listed j) (at v)) }
-
-pub returns-then-is_beyond : goal.returns-then-is_beyond
-returns-then-is_beyond c =
+reply : (c : After-unless_beyond) → channels_reply c.args.self.now c.args.v.now ≡ c.unless_beyond.result
+reply c =
     let j = c.args.self.now in
     let v = c.args.v.now in
-    told j v Never (reply_beyond (processes j) (happened j) (listed j) (at v) (sym c.if-is_beyond.ensures))
+    bool_then (beyond (processes j) (happened j) (at v)) c.unless_beyond.ensures (λ e is. reply_beyond (processes j) (happened j) (listed j) (at v) e ∙ sym is)
+    (λ e found. let is : c.unless_beyond.result ≡ channels_reply j v = search rules in sym is)
 
-pub loop-channel-init : goal.loop-channel-init
-loop-channel-init c = λ k lt. absurd (omega arith)
+pub returns-clause-is : goal.returns-clause-is
+returns-clause-is c = sym (reply c)
 
-pub returns-in-Some : goal.returns-in-Some
-returns-in-Some c =
+pub returns-clause-says : goal.returns-clause-says
+returns-clause-says c =
     let j = c.args.self.now in
-    let v = c.args.v.now in
-    let k = c.loop-channel.channel-index in
-    let items = c.deref-channel-items.ensures.value in
-    let e = c.in-Some.ensures in
-    told j v c.in-Some.reply
-    (reply_uneven (processes j) (happened j) (listed j) (at v) k (sym c.if-is_beyond.ensures) (omega (arith, ap length items)) c.loop-channel.invariant
-    (λ l. e.0 (subst (λ (xs : List Channel). Level (happened j) (channel xs k) (at v)) (sym items) l))
-    ∙ ap (λ (xs : List Channel). levels (happened j) (channel xs k) (at v)) (sym items) ∙ sym e.1)
-
-pub loop-channel-preserved : goal.loop-channel-preserved
-loop-channel-preserved c =
-    let j = c.args.self.now in
-    let v = c.args.v.now in
-    let k = c.loop-channel.channel-index in
-    below_more (λ i. Level (happened j) (channel (listed j) i) (at v)) k c.loop-channel.invariant
-    (subst (λ (xs : List Channel). Level (happened j) (channel xs k) (at v)) c.deref-channel-items.ensures.value c.in_default.ensures)
-
-pub returns : goal.returns
-returns c =
-    let j = c.args.self.now in
-    let v = c.args.v.now in
-    let long = ap length c.deref-channel-items.ensures.value in
-    told j v Holds (reply_level (processes j) (happened j) (listed j) (at v) (sym c.if-is_beyond.ensures) (λ k lt. c.loop-channel.invariant k (omega arith)))
+    subst (ChannelsSays j c.args.v.now) (reply c) (channels_say (processes j) (happened j) (listed j) (at c.args.v.now))

@@ -1,47 +1,38 @@
-use Rattle.std.proofs.Common.{◌≡◌, ◌<◌, ◌≤◌, length, get_or, sym, ap, ◌∙◌, subst, arith, below_more}
-use Rattle.lattice.specs.Order.{at}
+use Rattle.std.proofs.Common.{◌≡◌, ℕ, ◌<◌, ◌≤◌, false, length, None, Some, Option, MatchOption, sym, ap, ◌∙◌, subst, arith, rules}
 use Rattle.lattice.specs.declared.vector.Vector.{Vector}
 use Rattle.lattice.specs.declared.condition.Reply.{Reply}
-use Rattle.lattice.specs.declared.condition.Reply.TheVariants.{Holds, Lift, Never}
+use Rattle.lattice.specs.declared.condition.Reply.TheVariants.{Holds, Lift}
+use Rattle.lattice.specs.Order.{at}
 use Rattle.cuts.specs.declared.job.TraceJob.{TraceJob}
+use Rattle.cuts.specs.Cuts.{beyond}
 use Rattle.cuts.specs.Consistent.{greatest}
-use Rattle.cuts.specs.Jobs.{processes, happened, consistent_reply, ConsistentSays}
 use Rattle.cuts.specs.Closed.{consistent_never, consistent_holds, consistent_lift, consistent_says}
+use Rattle.cuts.specs.Jobs.{processes, happened, consistent_reply, ConsistentSays}
+use Rattle.cuts.proofs.Found.{bool_then}
 use Rattle.cuts.proofs.job.TraceJob.reply_consistent.Goals as goal
+use Rattle.cuts.proofs.job.TraceJob.reply_consistent.Goals.{After-unless_beyond}
 
--- the reply, with what it says
-told : (j : TraceJob) (v : Vector) (r : Reply) → consistent_reply j v ≡ r → record { is : r ≡ consistent_reply j v; says : ConsistentSays j v r }
-told j v r e = record { is = sym e; says = subst (ConsistentSays j v) e (consistent_says (processes j) (happened j) (at v)) }
+abbrev most : TraceJob → Vector → ℕ → ℕ
+most j v k = greatest (happened j) (at v) k (length (happened j))
 
-pub returns-then-is_beyond : goal.returns-then-is_beyond
-returns-then-is_beyond c =
+-- what the search for the lowest place behind answers
+abbrev Behind : TraceJob → Vector → Option (ℕ × ℕ) → Type 0
+Behind j v o = MatchOption o ((k : ℕ) → k < processes j → most j v k ≤ at v k) (λ p. (p.0 < processes j) × (p.1 ≡ most j v p.0) × (at v p.0 < p.1) × ((k : ℕ) → k < p.0 → most j v k ≤ at v k))
+
+replied : (j : TraceJob) (v : Vector) (r : Reply) (o : Option (ℕ × ℕ)) → beyond (processes j) (happened j) (at v) ≡ false → Behind j v o → MatchOption o (r ≡ Holds) (λ p. r ≡ Lift p) → consistent_reply j v ≡ r
+replied j v r None e all is = consistent_holds (processes j) (happened j) (at v) e all ∙ sym is
+replied j v r (Some p) e f is = consistent_lift (processes j) (happened j) (at v) p.0 e f.0 f.3 (omega (arith, f.1, f.2)) ∙ ap (λ (m : ℕ). Lift (p.0, m)) (sym f.1) ∙ sym is
+
+reply : (c : After-unless_beyond) → consistent_reply c.args.self.now c.args.v.now ≡ c.unless_beyond.result
+reply c =
     let j = c.args.self.now in
     let v = c.args.v.now in
-    told j v Never (consistent_never (processes j) (happened j) (at v) (sym c.if-is_beyond.ensures))
+    let r = c.unless_beyond.result in
+    bool_then (beyond (processes j) (happened j) (at v)) c.unless_beyond.ensures (λ e is. consistent_never (processes j) (happened j) (at v) e ∙ sym is)
+    (λ e found. let x : (o : Option (ℕ × ℕ)) × Behind j v o × MatchOption o (r ≡ Holds) (λ p. r ≡ Lift p) = search rules in replied j v r x.0 e x.1 x.2)
 
-pub loop-i-init : goal.loop-i-init
-loop-i-init c = λ k lt. absurd (omega arith)
+pub returns-clause-is : goal.returns-clause-is
+returns-clause-is c = sym (reply c)
 
-pub loop-i-preserved : goal.loop-i-preserved
-loop-i-preserved c =
-    let j = c.args.self.now in
-    let h = at c.args.v.now in
-    let i = c.loop-i.i in
-    let height : get_or c.heights.result.now i 0 ≡ h i = ap (λ hs. get_or hs i 0) c.heights.ensures in
-    below_more (λ k. greatest (happened j) h k (length (happened j)) ≤ h k) i c.loop-i.invariant (omega (arith, c.greatest-most.ensures i (omega arith)))
-
-pub returns-then-heights-i : goal.returns-then-heights-i
-returns-then-heights-i c =
-    let j = c.args.self.now in
-    let v = c.args.v.now in
-    let i = c.loop-i.i in
-    let lt : i < processes j = omega arith in
-    let most = c.greatest-most.ensures i lt in
-    let height : get_or c.heights.result.now i 0 ≡ at v i = ap (λ hs. get_or hs i 0) c.heights.ensures in
-    told j v _ (consistent_lift (processes j) (happened j) (at v) i (sym c.if-is_beyond.ensures) lt c.loop-i.invariant (omega arith) ∙ ap (λ m. Lift (i, m)) (sym most))
-
-pub returns : goal.returns
-returns c =
-    let j = c.args.self.now in
-    let v = c.args.v.now in
-    told j v Holds (consistent_holds (processes j) (happened j) (at v) (sym c.if-is_beyond.ensures) (λ k lt. c.loop-i.invariant k (omega arith)))
+pub returns-clause-says : goal.returns-clause-says
+returns-clause-says c = subst (ConsistentSays c.args.self.now c.args.v.now) (reply c) (consistent_says (processes c.args.self.now) (happened c.args.self.now) (at c.args.v.now))

@@ -1,18 +1,20 @@
-use Rattle.std.proofs.Common.{sym, arith}
+use Rattle.std.proofs.Common.{◌≡◌, ℕ, Bool, ◌+◌, ap, arith, rules, tests}
+use Rattle.std.proofs.lemmas.Iterator.{YieldsList-from_range}
+use Rattle.std.proofs.lemmas.Iterator.Consumers.{count_from_yields_List, YieldsList-from_filter}
+use Rattle.trace.specs.Events.{does, nth}
+use Rattle.cuts.specs.Sides.{asks, tallied}
 use Rattle.cuts.specs.Jobs.{happened}
-use Rattle.cuts.specs.Sides.{asks}
-use Rattle.cuts.specs.Tallies.{tally_le, tally_on, tally_off}
+use Rattle.cuts.proofs.Counting.{tally_range}
 use Rattle.cuts.proofs.job.TraceJob.tally.Goals as goal
-use Rattle.cuts.proofs.job.TraceJob.tally.Goals.{then-is_on, else-is_on}
 
-pub overflow_add-tally : goal.overflow_add-tally
-overflow_add-tally c = omega (arith, tally_le (happened c.args.self.now) (asks (happened c.args.self.now) c.args.side) c.args.side.place c.loop-before.before)
-
-pub loop-before-preserved : goal.loop-before-preserved
-loop-before-preserved c =
+pub returns : goal.returns
+returns c =
     let es = happened c.args.self.now in
     let s = c.args.side in
-    elim c.if-is_on.branch [
-      | then-is_on w ↦ omega (arith, tally_on es (asks es s) s.place c.loop-before.before (sym w.if-is_on.ensures))
-      | else-is_on w ↦ omega (arith, tally_off es (asks es s) s.place c.loop-before.before (sym w.if-is_on.ensures))
-    ]
+    let h = c.args.height in
+    let on : ℕ → Bool = λ k. asks es s (does es (nth es s.place (k + 1))) in
+    let count =
+    count_from_yields_List c.filter.result c.count.result c.count.ensures.ran
+    (YieldsList-from_filter _ on (YieldsList-from_range 0 h h (cc) (omega arith)) c.filter.ensures.closure (λ x b q k. search (rules, tests))) in
+    let end : 0 + h ≡ h = omega arith in
+    omega (arith, count, tally_range es (asks es s) s.place h 0, ap (tallied es s) end)

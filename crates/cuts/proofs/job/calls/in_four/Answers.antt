@@ -1,8 +1,12 @@
-use Rattle.std.proofs.Common.{◌++◌, drop, replicate, ap, ◌∙◌}
-use Rattle.cuts.proofs.Padding.{front_padded}
+use Rattle.std.proofs.Common.{◌≡◌, get_or, sym, ◌∙◌, arith, rules}
+use Rattle.std.proofs.lemmas.List.{places, same_lists}
+use Rattle.cuts.proofs.Padding.{get_or-padded}
 use Rattle.cuts.proofs.job.calls.in_four.Goals as goal
 
 pub returns : goal.returns
 returns c =
-    let w = c.min-width.result in
-    ap (λ xs. xs ++ drop w (replicate 4 0)) c.copy_from_slice.ensures.after ∙ front_padded c.args.part.now 4 w c.min-width.ensures
+    same_lists _ _ (search (rules, places))
+    (λ k d lt.
+    let at = c.from_fn.ensures.items.at k d (omega arith) in
+    let is : get_or c.from_fn.result k d ≡ get_or c.args.part.now k 0 = search rules in
+    is ∙ sym (get_or-padded c.args.part.now k d (omega arith)))
