@@ -1,5 +1,5 @@
 -- A row that is read: an order, or none; and the rows of a side one after another. Assumes nothing.
-use Rattle.std.proofs.Common.{◌≡◌, ℕ, ◌+◌, ◌-◌, ◌<◌, ◌≤◌, List, [], ◌∷◌, ◌++◌, length, get_or, Ok, Err, Result, sym, refl, ap, ◌∙◌, subst, subst₂, ⊎_elim, append_assoc, arith, MatchResult}
+use Rattle.std.proofs.Common.{◌≡◌, ℕ, ◌+◌, ◌-◌, ◌<◌, ◌≤◌, List, [], ◌∷◌, ◌++◌, length, get_or, Ok, Err, Result, sym, ap, ◌∙◌, subst, subst₂, ⊎_elim, append_assoc, arith, MatchResult}
 use Rattle.std.specs.List.{flat_map, AllByRecursion}
 use Rattle.std.proofs.lemmas.List.{length_push, get_or_push, get_or_append_left, flat_map_more}
 use Rattle.std.proofs.ByRecursion.{All-push}
@@ -67,17 +67,6 @@ pub record SomeRows (s : Side) (i : ℕ) (before left : Reader) (g h : Gates) : 
   pub count : (sides h).n ≡ (sides g).n
   pub other : other_of s h ≡ other_of s g
 
-pub rows_none : (s : Side) (i : ℕ) (before : Reader) (g : Gates) → i ≡ 0 → SomeRows s i before before g g
-rows_none s i before g zero = record {
-  rows = [];
-  many = sym zero;
-  ok = tt;
-  took = record { is = refl; total = refl };
-  stand = λ k p less. absurd (omega arith);
-  count = refl;
-  other = refl;
-}
-
 module _ (s : Side) (i : ℕ) (before left : Reader) (g h : Gates) (so : SomeRows s i before left g h) where
   -- one row more
   module _ (end : Reader) (m : Gates) (one : RowRead s i left end h m) where
@@ -114,17 +103,6 @@ module _ (s : Side) (i : ℕ) (before left : Reader) (g h : Gates) (so : SomeRow
   rows_break r less b =
       next so.rows left.rest.now (omega (arith, so.many, so.count)) so.ok so.took.is
       (subst₂ (λ n t. RowBroken n t left.rest.now r) so.count so.took.total b)
-
-  -- there are so many
-  pub rows_done : i ≡ (sides g).n → RowsRead s before left g h
-  rows_done all = record {
-    rows = so.rows;
-    ok = (so.many ∙ all, so.ok);
-    took = so.took;
-    stand = λ k p less. so.stand k p (omega arith);
-    count = so.count;
-    other = so.other;
-  }
 
 -- the rows of the vans were read
 module _ (before left : Reader) (g h : Gates) (vans : RowsRead side.Vans before left g h) where
