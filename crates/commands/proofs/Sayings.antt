@@ -35,17 +35,24 @@ name_word Probe = codes "probe"
 name_word Clocks = codes "clocks"
 name_word Report = codes "report"
 
+-- the words are not one number, and not two
+abbrev NotOne : ℕ → List (List ℕ) → Type 0
+NotOne most ws = (a : List ℕ) (v : ℕ) → ws ≡ a ∷ [] → Writes a most v → ⊥
+
+abbrev NotTwo : List (List ℕ) → Type 0
+NotTwo ws = (a b : List ℕ) (p h : ℕ) → ws ≡ a ∷ b ∷ [] → Writes a most64 p → Writes b most32 h → ⊥
+
 -- the words do not fit behind the name
 abbrev pub Cannot : Name → List (List ℕ) → Type 0
 Cannot Job ws = (ws ≡ [] → ⊥) × ((a : List ℕ) → ws ≡ a ∷ [] → ⊥)
 Cannot New ws = ws ≡ [] → ⊥
-Cannot Floor ws = (a b : List ℕ) (p h : ℕ) → ws ≡ a ∷ b ∷ [] → Writes a most64 p → Writes b most32 h → ⊥
-Cannot Ceiling ws = (a b : List ℕ) (p h : ℕ) → ws ≡ a ∷ b ∷ [] → Writes a most64 p → Writes b most32 h → ⊥
-Cannot Run ws = (a : List ℕ) (v : ℕ) → ws ≡ a ∷ [] → Writes a most32 v → ⊥
+Cannot Floor ws = NotTwo ws
+Cannot Ceiling ws = NotTwo ws
+Cannot Run ws = NotOne most32 ws
 Cannot Read ws = ws ≡ [] → ⊥
 Cannot Probe ws = (c : Asked) (further : List (List ℕ)) (hs : List ℕ) → ws ≡ asked_word c ∷ further → EachWrites further hs → length hs ≤ 32 → ⊥
 Cannot Clocks ws = ws ≡ [] → ⊥
-Cannot Report ws = (a : List ℕ) (v : ℕ) → ws ≡ a ∷ [] → Writes a most64 v → ⊥
+Cannot Report ws = NotOne most64 ws
 
 -- a line that says something: a name, and words that fit
 record Parts (line : List ℕ) : Type 0 where
@@ -122,11 +129,15 @@ module _ (ws after : List (List ℕ)) {r : Option (Bor (List ℕ))} {name : Bor 
   begins_clocks is = (λ end line of. says.clocks (cc (of, first, is, end)), not_behind Clocks is)
 
   module _ {left : List (List ℕ)} {a : List ℕ} (e : after ≡ a ∷ left) where
+    -- a command of one number
+    begins_one : (n : Name) (c : Command) (most : ℕ) → (NotOne most after → Cannot n after) → name.now ≡ name_word n → ((line : List ℕ) → words line ≡ name_word n ∷ a ∷ [] → Says line c) → Begin ws c left
+    begins_one n c most unfit is say = (λ end line of. say line (cc (of, first, is, e, end)), λ more. not_behind n is (unfit (λ b v m _. more (cc (e, m)))))
+
     pub begins_run : {v : ℕ} → name.now ≡ codes "run" → Writes a most32 v → Begin ws (command.Run v) left
-    begins_run is w = (λ end line of. says.run a (cc (of, first, is, e, end)) w, λ more. not_behind Run is (λ b v n _. more (cc (e, n))))
+    begins_run is w = begins_one Run _ most32 (λ x. x) is (λ line are. says.run a are w)
 
     pub begins_report : {v : ℕ} → name.now ≡ codes "report" → Writes a most64 v → Begin ws (command.Report v) left
-    begins_report is w = (λ end line of. says.report a (cc (of, first, is, e, end)) w, λ more. not_behind Report is (λ b v n _. more (cc (e, n))))
+    begins_report is w = begins_one Report _ most64 (λ x. x) is (λ line are. says.report a are w)
 
     pub begins_probe : {c : Asked} {hs : List ℕ} {end : List (List ℕ)} → name.now ≡ codes "probe" → a ≡ asked_word c → Heights left hs end → Begin ws (command.Probe c hs) end
     begins_probe {c} {hs} {end} is asked h = (
@@ -144,8 +155,12 @@ module _ (ws after : List (List ℕ)) {r : Option (Bor (List ℕ))} {name : Bor 
     )
 
     module _ {last : List (List ℕ)} {b : List ℕ} (f : left ≡ b ∷ last) where
+      -- a command of two numbers
+      begins_two : (n : Name) (c : Command) → (NotTwo after → Cannot n after) → name.now ≡ name_word n → ((line : List ℕ) → words line ≡ name_word n ∷ a ∷ b ∷ [] → Says line c) → Begin ws c last
+      begins_two n c unfit is say = (λ end line of. say line (cc (of, first, is, e, f, end)), λ more. not_behind n is (unfit (λ a2 b2 p2 h2 m _ _. more (cc (e, f, m)))))
+
       pub begins_floor : {p h : ℕ} → name.now ≡ codes "floor" → Writes a most64 p → Writes b most32 h → Begin ws (command.Floor p h) last
-      begins_floor is v w = (λ end line of. says.floor a b (cc (of, first, is, e, f, end)) v w, λ more. not_behind Floor is (λ a2 b2 p2 h2 n _ _. more (cc (e, f, n))))
+      begins_floor is v w = begins_two Floor _ (λ x. x) is (λ line are. says.floor a b are v w)
 
       pub begins_ceiling : {p h : ℕ} → name.now ≡ codes "ceiling" → Writes a most64 p → Writes b most32 h → Begin ws (command.Ceiling p h) last
-      begins_ceiling is v w = (λ end line of. says.ceiling a b (cc (of, first, is, e, f, end)) v w, λ more. not_behind Ceiling is (λ a2 b2 p2 h2 n _ _. more (cc (e, f, n))))
+      begins_ceiling is v w = begins_two Ceiling _ (λ x. x) is (λ line are. says.ceiling a b are v w)

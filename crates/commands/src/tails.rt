@@ -42,6 +42,7 @@ impl<'a> Words<'a> {
     pub(crate) fn end(&mut self) -> Result<(), LineFault>
         ensures { MatchResult result (λ _. self.old ≡ []) (λ _. self.old ≢ []) }
     {
+        // A match, since here it is the word found that is the fault.
         match self.next() {
             None => Ok(()),
             Some(_) => Err(LineFault::Words),

@@ -25,6 +25,7 @@ fn row(reader: &mut Reader<'_>, gates: &mut Gates, side: Side, i: usize) -> Resu
 fn rows(reader: &mut Reader<'_>, gates: &mut Gates, side: Side) -> Result<(), RecordFault>
     ensures { MatchResult result (λ _. RowsRead side reader.old reader.new gates.old gates.new) (λ e. RowsBroken (sides gates.old).n reader.old.total reader.old.rest.now (record_row e)) }
 {
+    // Over the numbers of the rows: there is no list of them yet, each is read and put in its turn.
     for i in 0..gates.count() {
         row(reader, gates, side, i)?;
     }

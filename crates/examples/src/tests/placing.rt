@@ -4,13 +4,11 @@ use gates::side::Side;
 use lattice::board::Board;
 use lattice::call::Call;
 use lattice::condition::{Condition, Reply};
-use lattice::lent::Lent;
 use lattice::pair::Pair;
 use lattice::play::play;
 use lattice::vector::Vector;
 use lattice::verdict::{Answer, Verdict};
-use refusal::{Layer, Refusal};
-use std::marker::PhantomData;
+use refusal::{Layer, Refusal, Rule};
 use std::test::Fail;
 
 // Two vans with these orders; gate 0 likes van 1 best, gate 1 van 0.
@@ -63,19 +61,22 @@ fn each_likes_another(rt: HostRuntime) -> Result<(), Fail> {
     Ok(())
 }
 
+// The refusal of a place by the board.
+fn refusal(rule: Rule, place: usize) -> Refusal {
+    Refusal {
+        rule,
+        position: place,
+        layer: Layer::Board,
+    }
+}
+
 #[test]
 fn refusals_change_nothing(rt: HostRuntime) {
     let mut board = Board::new();
-    let no_place = Refusal {
-        number: 13,
-        position: 40,
-        layer: Layer::Board,
-    };
-    let too_high = Refusal {
-        number: 14,
-        position: 31,
-        layer: Layer::Board,
-    };
+    let no_place = refusal(Rule::Place, 40);
+    let too_high = refusal(Rule::Height, 31);
+    assert_eq!(rt; no_place.number(), 13);
+    assert_eq!(rt; too_high.number(), 14);
     assert!(rt; board.floor(40, 2_000_000) == Err(no_place));
     assert!(rt; board.ceiling(40, 0) == Err(no_place));
     assert!(rt; board.floor(31, 1_000_001) == Err(too_high));
@@ -83,14 +84,7 @@ fn refusals_change_nothing(rt: HostRuntime) {
     assert!(rt; shows(&board, Verdict::Open, 0, 0, 0));
     assert!(rt; board.floor(31, 1_000_000).is_ok());
     assert!(rt; board.read().vector.height(31) == Ok(1_000_000));
-    assert!(rt;
-        board.read().vector.height(32)
-            == Err(Refusal {
-                number: 13,
-                position: 32,
-                layer: Layer::Board,
-            })
-    );
+    assert!(rt; board.read().vector.height(32) == Err(refusal(Rule::Place, 32)));
 }
 
 #[test]
@@ -121,24 +115,15 @@ fn at(first: u32, second: u32) -> Result<Vector, Refusal> {
 #[test]
 fn a_rival_that_passed_still_counts(rt: HostRuntime) -> Result<(), Fail> {
     let gates = depot(&[0, 1], &[0, 1])?;
-    let passed = at(0, 1).ok().ok_or("too high")?;
-    let past = at(2, 1).ok().ok_or("too high")?;
+    let passed = at(0, 1)?;
+    let past = at(2, 1)?;
     assert!(rt; gates.probe(&passed) == Reply::Lift((0, 1)));
     assert!(rt; gates.probe(&past) == Reply::Never);
     Ok(())
 }
 
-fn lent<'a>(lender: &'a Gates) -> Lent<&'a Gates, Gates> {
-    Lent {
-        lender,
-        of: PhantomData,
-    }
-}
-
 // The reply of the pair of two conditions that are lent.
-fn probe_both<'a>(first: &'a Gates, second: &'a Gates, v: &Vector) -> Reply {
-    let first = lent(first);
-    let second = lent(second);
+fn probe_both(first: &Gates, second: &Gates, v: &Vector) -> Reply {
     let pair = Pair { first, second };
     pair.probe(v)
 }
@@ -147,7 +132,7 @@ fn probe_both<'a>(first: &'a Gates, second: &'a Gates, v: &Vector) -> Reply {
 fn pairs_and_lent_conditions(rt: HostRuntime) -> Result<(), Fail> {
     let gates = depot(&[0, 1], &[0, 1])?;
     let blank = Gates::new(0).ok_or("refused")?;
-    let start = at(0, 0).ok().ok_or("too high")?;
+    let start = at(0, 0)?;
     assert!(rt; probe_both(&blank, &blank, &start) == Reply::Holds);
     assert!(rt; probe_both(&blank, &gates, &start) == Reply::Lift((0, 1)));
     assert!(rt; probe_both(&gates, &blank, &start) == Reply::Lift((0, 1)));
@@ -157,10 +142,5 @@ fn pairs_and_lent_conditions(rt: HostRuntime) -> Result<(), Fail> {
 #[test]
 fn a_vector_is_within_bounds(rt: HostRuntime) {
     assert!(rt; at(0, 1_000_000).is_ok());
-    let too_high = Refusal {
-        number: 14,
-        position: 1,
-        layer: Layer::Board,
-    };
-    assert!(rt; at(0, 1_000_001).err() == Some(too_high));
+    assert!(rt; at(0, 1_000_001).err() == Some(refusal(Rule::Height, 1)));
 }
