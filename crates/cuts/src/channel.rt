@@ -5,7 +5,7 @@ pub struct Channel {
     pub receiver: u8,
 }
 
-// Whether a process sends to the other or receives from it.
+// Whether a process sends to the other or receives from it: data, since a closure in its place has no name in a contract.
 #[derive(Clone, Copy)]
 pub enum Way {
     To,

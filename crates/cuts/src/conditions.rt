@@ -12,6 +12,8 @@ use lattice::condition::{Condition, Reply};
 use lattice::pair::Pair;
 use lattice::vector::Vector;
 
+// Three types and not one with a kind: a contract names the condition that it is about by its type.
+
 // All that happened before an event of the cut is in the cut.
 #[derive(Clone, Copy)]
 pub struct Consistent<'a> {

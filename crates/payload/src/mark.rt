@@ -15,6 +15,8 @@ pub fn mark<P: Payload>(wish: &P::Wish, bytes: &[u8; WIDEST]) -> bool
 }
 
 impl Wish {
+    // An arm for each kind: which one a job has is known only when its file is read, so no type parameter can say it.
+
     // Whether this wish, of either kind, wants the payload in the first bytes.
     pub fn marks(&self, bytes: &[u8; WIDEST]) -> bool
         ensures { result ≡ wanted_by self.now bytes.now }

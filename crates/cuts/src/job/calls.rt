@@ -38,7 +38,7 @@ impl TraceJob {
         Ok(())
     }
 
-    // Lists one channel more.
+    // Lists one channel more. Sender and receiver stand apart, as in a file, until they are judged; then they are a `Channel`.
     pub fn add_channel(&mut self, sender: u8, receiver: u8) -> Result<(), JobFault>
         ensures { Listed sender receiver self.old result self.new }
     {
@@ -56,7 +56,7 @@ impl TraceJob {
         Ok(())
     }
 
-    // One event more, with its payload.
+    // One event more, with its payload: parts of a file until the width is judged, and then an `Event`.
     pub fn push(&mut self, process: u8, action: Action, part: &[u8]) -> Result<(), JobFault>
         ensures { Recorded process action part.now self.old result self.new }
     {

@@ -15,6 +15,8 @@ use std::cmp::Ordering;
 use trace::event::Action;
 
 impl TraceJob {
+    // The side is an argument: of a struct that borrows the trace beside it, what a closure that captures it returns was not proved.
+
     // Whether the event of the side's process with this number is on the side.
     fn is_on(&self, side: Side, number: u32) -> bool
         ensures { result ≡ asks (happened self.now) side (does (happened self.now) (nth (happened self.now) side.place number)) }
