@@ -12,7 +12,7 @@ Say ws c = (line : List ℕ) → words line ≡ ws → Says line c
 abbrev pub SayNone : List (List ℕ) → Type 0
 SayNone ws = (line : List ℕ) (c : Command) → words line ≡ ws → Says line c → ⊥
 
--- the words begin with what the command is said by: with none behind it they say it, and else nothing
+-- the words begin with the command: they say it if none are behind it, and nothing otherwise
 abbrev pub Begin : List (List ℕ) → Command → List (List ℕ) → Type 0
 Begin ws c behind = (behind ≡ [] → Say ws c) × (behind ≢ [] → SayNone ws)
 
@@ -24,7 +24,7 @@ module _ {A E : Type 0} (gives : List ℕ → Result A E → Type 0) where
     pub digits : all_digits word ≡ true
     pub value : gives word (Ok v)
 
-  -- the first word has others, or is not read
+  -- there is no first word, or it has other bytes too, or it is not read as any
   abbrev pub NoNumber : List (List ℕ) → Type 0
   NoNumber ws = (word : List ℕ) (after : List (List ℕ)) → ws ≡ word ∷ after → all_digits word ≡ true → (e : E) × gives word (Err e)
 
@@ -38,5 +38,6 @@ pub record Heights (ws : List (List ℕ)) (heights : List ℕ) (after : List (Li
   pub full : (length written ≡ 32) ⊎ (after ≡ [])
   pub padded : heights ≡ take 32 (written ++ replicate 32 0)
 
+-- more than 32 words, or one that writes no height
 abbrev pub NoHeights : List (List ℕ) → Type 0
 NoHeights ws = (hs : List ℕ) → EachWrites ws hs → length hs ≤ 32 → ⊥

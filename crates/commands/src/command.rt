@@ -2,6 +2,7 @@ ghost use Rattle.std.specs.Prelude.{◌≡◌, ◌≢◌, Some, MatchResult};
 ghost use Rattle.commands.specs.Commands.{asked_word};
 ghost use Rattle.commands.specs.Faults.{fault_text};
 ghost use Rattle.commands.specs.declared.command.Asked.{Asked as TheAsked};
+ghost use Rattle.commands.specs.declared.command.LineFault.TheVariants.{Condition};
 
 use std::error::Error;
 use std::fmt;
@@ -20,7 +21,7 @@ pub enum Asked {
 impl TryFrom<&[u8]> for Asked {
     type Error = LineFault;
 
-    ghost try_from_gives = { λ word r. MatchResult r (λ c. word.now ≡ asked_word c) (λ _. (c : TheAsked) → word.now ≢ asked_word c) };
+    ghost try_from_gives = { λ word r. MatchResult r (λ c. word.now ≡ asked_word c) (λ fault. (fault ≡ Condition) × ((c : TheAsked) → word.now ≢ asked_word c)) };
 
     fn try_from(word: &[u8]) -> Result<Asked, LineFault> {
         match word {

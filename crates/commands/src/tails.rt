@@ -23,10 +23,12 @@ impl<'a> Words<'a> {
         number(self.word()?).ok_or(LineFault::Number)
     }
 
+    // At most 32 heights, and 0 for each that is left out.
     pub(crate) fn heights(&mut self) -> Result<[u32; 32], LineFault>
         ensures { MatchResult result (λ hs. Heights self.old hs self.new) (λ _. NoHeights self.old) }
     {
         let mut heights = [0; 32];
+        // Not zipped with the words: of what is written through a zip no proof learns anything.
         for height in heights.iter_mut() {
             let Some(word) = self.next() else {
                 break;

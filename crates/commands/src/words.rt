@@ -16,18 +16,18 @@ impl<'a> Model for Words<'a> {
     ghost view = { λ s. words s.line.now };
 }
 
-fn is_blank(byte: &u8) -> bool
-    ensures { result ≡ blank_byte byte.now }
-{
-    *byte <= b' '
-}
-
 impl<'a> Words<'a> {
     pub(crate) fn new(line: &'a [u8]) -> Words<'a>
         ensures { result ≡ words line.now }
     {
         Words { line }
     }
+}
+
+fn is_blank(byte: &u8) -> bool
+    ensures { result ≡ blank_byte byte.now }
+{
+    *byte <= b' '
 }
 
 impl<'a> Iterator for Words<'a> {

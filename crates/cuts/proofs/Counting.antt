@@ -1,7 +1,8 @@
 -- Counting what is on one side of a channel over a range of heights. Assumes nothing.
-use Rattle.std.proofs.Common.{◌≡◌, ℕ, zero, suc, ◌+◌, ◌-◌, ◌<◌, ◌≤◌, Bool, true, List, ◌∷◌, length, filter, None, Some, Option, MatchOption, refl, sym, ap, ◌∙◌, subst, ⊎_elim, arith}
+use Rattle.std.proofs.Common.{◌≡◌, ℕ, zero, suc, ◌+◌, ◌-◌, ◌<◌, ◌≤◌, Bool, true, List, ◌∷◌, length, filter, Option, MatchOption, refl, sym, ap, ◌∙◌, subst, ⊎_elim, arith}
 use Rattle.std.specs.List.{range_with_len, slice_get}
 use Rattle.std.specs.Option.{option_map}
+use Rattle.std.proofs.lemmas.Iterator.Adapters.{option_map_id}
 use Rattle.std.proofs.lemmas.Bool.{cases_Bool, cases_lt, cond-true, cond-false}
 use Rattle.trace.specs.declared.event.Event.{Event}
 use Rattle.trace.specs.declared.event.Action.{Action}
@@ -10,10 +11,6 @@ use Rattle.cuts.specs.Channels.{tally, Reaches}
 use Rattle.cuts.specs.Tallies.{tally_on, tally_off, tally_mono, Short}
 use Rattle.cuts.proofs.Found.{match_then}
 use Rattle.cuts.proofs.Searches.{above}
-
-option_same : {A : Type 0} (o : Option A) → option_map (λ x. x) o ≡ o
-option_same None = refl
-option_same (Some x) = refl
 
 module _ (es : List Event) (test : Action → Bool) (i : ℕ) where
   -- whether the event with this number does what is asked
@@ -74,7 +71,7 @@ module _ (es : List Event) (test : Action → Bool) (i : ℕ) where
   pub nth_reaches : (n a m count : ℕ) (r : Option ℕ) → n ≡ total es i - a → count ≡ counted a + m + 1 → option_map (λ x. x) r ≡ slice_get (filter on (above a n)) m
       → MatchOption r (Short es counted i count) (Reaches es counted i count)
   nth_reaches n a m count r long much is =
-      match_then r (same_answer (a + n) (counted a + m + 1) (a + n) count r refl (sym much) (subst (Answer (a + n) (counted a + m + 1)) (sym is ∙ option_same r) (nth_at n a m)))
+      match_then r (same_answer (a + n) (counted a + m + 1) (a + n) count r refl (sym much) (subst (Answer (a + n) (counted a + m + 1)) (sym is ∙ option_map_id r) (nth_at n a m)))
       (λ short k le. omega (arith, tally_mono es test i k (a + n) (omega arith)))
       (λ q f.
       record {

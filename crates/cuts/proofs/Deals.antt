@@ -1,5 +1,5 @@
 -- What is on one side of a channel, event by event. Assumes nothing.
-use Rattle.std.proofs.Common.{◌≡◌, ℕ, ◌+◌, ◌<◌, ◌≤◌, Bool, false, ◌&&◌, ◌==◌, eqb, ltb, List, length, refl, sym, ap, ◌∙◌, ⊎_elim, arith}
+use Rattle.std.proofs.Common.{◌≡◌, ℕ, ◌<◌, ◌≤◌, Bool, false, ◌&&◌, ◌==◌, eqb, ltb, List, length, refl, sym, ap, ◌∙◌, ⊎_elim, arith}
 use lib.ListN.{get_or-eq_default}
 use Rattle.std.proofs.lemmas.Bool.{cases_lt, le-ltb, lt-ltb, and_left}
 use Rattle.trace.specs.declared.event.Event.{Event}
@@ -9,9 +9,8 @@ use Rattle.trace.proofs.Sources.{sender}
 use Rattle.cuts.specs.declared.channel.Side.{Side}
 use Rattle.cuts.specs.declared.channel.Way.{Way}
 use Rattle.cuts.specs.declared.channel.Way.TheVariants.{To, From}
-use Rattle.cuts.specs.Sides.{asked, asks, tallied, sent_from}
+use Rattle.cuts.specs.Sides.{asked, asks, sent_from}
 use Rattle.cuts.specs.Cutting.{nth_is, nth_there, nth_low, nth_high}
-use Rattle.cuts.specs.Tallies.{tally_off}
 
 -- what nobody sent is from nobody
 pub from_nobody : (es : List Event) (m p : ℕ) → ((s : Sending es) → s.message ≡ m → ⊥) → sent_from es m p ≡ false
@@ -40,7 +39,3 @@ asks_past es s h none =
     (λ (ge : length es ≤ nth es s.place h). ge)
     (cases_lt (nth es s.place h) (length es)) in
     ap (λ (e : Event). asks es s e.action) (get_or-eq_default es _ out) ∙ asked_local es s.way s.other
-
--- so beyond the total nothing is added
-pub tallied_past : (es : List Event) (s : Side) (h : ℕ) → total es s.place ≤ h → tallied es s (h + 1) ≡ tallied es s h
-tallied_past es s h le = tally_off es (asks es s) s.place h (asks_past es s (h + 1) (λ low high. omega arith))

@@ -4,7 +4,6 @@ pub mod Found
 pub mod Levelling
 pub mod Merging
 pub mod Padding
-pub mod Pushing
 pub mod Searches
 pub mod Shifts
 pub mod SameJob

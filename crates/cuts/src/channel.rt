@@ -5,13 +5,14 @@ pub struct Channel {
     pub receiver: u8,
 }
 
-// One side of a channel: what a process sends to the other, or receives from it.
+// Whether a process sends to the other or receives from it.
 #[derive(Clone, Copy)]
 pub enum Way {
     To,
     From,
 }
 
+// One side of a channel: what a process sends to the other, or receives from it.
 #[derive(Clone, Copy)]
 pub struct Side {
     pub place: usize,

@@ -4,39 +4,45 @@ mod depot;
 mod report;
 
 use crate::depot::depot;
-use crate::report::print_report;
-use anyhow::{Context, anyhow};
-use gates::gates::Gates;
+use crate::report::Placing;
+use anyhow::Context;
 use lattice::board::Board;
+use std::io;
 
 // No search makes more lifts than this, so a run with this budget decides.
 const DECIDING: u32 = 32_000_000;
 
-// Moves the van at a place down to a position of its order, and prints the placing that is left.
+// Searches, and prints the placing that is left.
+fn search(rt: &impl Print, placing: &mut Placing) -> io::Result<()> {
+    let _ = placing.board.run(&placing.gates, DECIDING);
+    println!(rt; "{}", *placing)
+}
+
+// Moves a van down to a position of its order, and searches again.
 fn move_down(
     rt: &impl Print,
-    gates: &Gates,
-    board: &mut Board,
-    place: usize,
+    placing: &mut Placing,
+    van: usize,
     position: u32,
 ) -> anyhow::Result<()> {
-    if board.floor(place, position).is_err() {
-        return Err(anyhow!("the floor is refused"));
-    }
-    println!(rt; "floor {place} {position}")?;
-    let _ = board.run(gates, DECIDING);
-    print_report(rt, gates, &board.read())?;
+    placing
+        .board
+        .floor(van, position)
+        .context("the floor is refused")?;
+    println!(rt; "floor {van} {position}")?;
+    search(rt, placing)?;
     Ok(())
 }
 
 // Places the vans of the depot, then moves one van down its order until no placing is left.
 fn run(rt: &impl Print) -> anyhow::Result<()> {
-    let gates = depot().context("the depot's orders are refused")?;
-    let mut board = Board::new();
-    let _ = board.run(&gates, DECIDING);
-    print_report(rt, &gates, &board.read())?;
-    move_down(rt, &gates, &mut board, 4, 1)?;
-    move_down(rt, &gates, &mut board, 4, 4)
+    let mut placing = Placing {
+        gates: depot().context("the depot's orders are refused")?,
+        board: Board::new(),
+    };
+    search(rt, &mut placing)?;
+    move_down(rt, &mut placing, 4, 1)?;
+    move_down(rt, &mut placing, 4, 4)
 }
 
 fn main(rt: HostRuntime) -> anyhow::Result<()> {

@@ -1,30 +1,30 @@
 use gates::gates::Gates;
-use lattice::board::Reading;
+use lattice::board::Board;
 use lattice::verdict::Verdict;
-use std::io;
+use std::fmt;
 
-// The verdict, and after found a line for each van: its place and its gate.
-pub fn print_report(rt: &impl Print, gates: &Gates, reading: &Reading) -> io::Result<()> {
-    match reading.verdict {
-        Verdict::Open => println!(rt; "M open"),
-        Verdict::None => println!(rt; "M none"),
-        Verdict::Found => print_placing(rt, gates, reading),
-    }
+// Vans at gates, and the board of the search that places them.
+#[derive(Drop)]
+pub struct Placing {
+    pub gates: Gates,
+    pub board: Board,
 }
 
-fn print_placing(rt: &impl Print, gates: &Gates, reading: &Reading) -> io::Result<()> {
-    println!(rt; "M found")?;
-    for (van, height) in reading
-        .vector
-        .heights()
-        .iter()
-        .enumerate()
-        .take(gates.count())
-    {
-        match gates.gate_at(van, *height as usize) {
-            Some(gate) => println!(rt; "{van} {gate}")?,
-            None => println!(rt; "{van} -")?,
+// The verdict, and after found a line for each van: its place and its gate.
+impl fmt::Display for Placing {
+    fn fmt<W: fmt::Write>(&self, f: &mut fmt::Formatter<W>) -> fmt::Result {
+        let reading = self.board.read();
+        write!(f, "M {}", reading.verdict)?;
+        if reading.verdict != Verdict::Found {
+            return Ok(());
         }
+        let heights = reading.vector.heights().iter();
+        for (van, &height) in heights.enumerate().take(self.gates.count()) {
+            match self.gates.gate_at(van, height as usize) {
+                Some(gate) => write!(f, "\n{van} {gate}")?,
+                None => write!(f, "\n{van} -")?,
+            }
+        }
+        Ok(())
     }
-    Ok(())
 }

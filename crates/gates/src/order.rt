@@ -53,6 +53,7 @@ impl Order {
             return Err(OrderFault::Order);
         }
         let mut order = [0; MOST];
+        // A number that has not come yet has the rank `count`, as no position is that.
         let mut ranks = [count as u8; MOST];
         for (p, &number) in numbers.iter().enumerate() {
             let x = usize::from(number);
@@ -88,6 +89,6 @@ impl Order {
         requires { x < self.now.count }
         ensures { result ≡ position self.now.count (λ p. slice_index self.now.numbers p) x }
     {
-        self.ranks[x] as usize
+        usize::from(self.ranks[x])
     }
 }

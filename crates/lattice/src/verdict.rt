@@ -1,4 +1,4 @@
-ghost use Rattle.std.specs.Prelude.{Some};
+ghost use Rattle.std.specs.Prelude.{◌≡◌, Some};
 ghost use Rattle.lattice.specs.Words.{verdict_word, answer_word};
 
 use std::fmt;
@@ -11,15 +11,24 @@ pub enum Verdict {
     None,
 }
 
+impl Verdict {
+    // The word for the verdict, for texts that may not fail.
+    pub fn word(self) -> &'static str
+        ensures { result.now ≡ verdict_word self }
+    {
+        match self {
+            Verdict::Open => "open",
+            Verdict::Found => "found",
+            Verdict::None => "none",
+        }
+    }
+}
+
 impl fmt::Display for Verdict {
     ghost output = { λ verdict. Some (verdict_word verdict) };
 
     fn fmt<W: fmt::Write>(&self, f: &mut fmt::Formatter<W>) -> fmt::Result {
-        f.write_str(match self {
-            Verdict::Open => "open",
-            Verdict::Found => "found",
-            Verdict::None => "none",
-        })
+        f.write_str(self.word())
     }
 }
 

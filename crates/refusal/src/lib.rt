@@ -58,17 +58,26 @@ pub enum Layer {
     Board,
 }
 
-impl fmt::Display for Layer {
-    ghost output = { λ layer. Some (layer_word layer) };
-
-    fn fmt<W: fmt::Write>(&self, f: &mut fmt::Formatter<W>) -> fmt::Result {
-        f.write_str(match self {
+impl Layer {
+    // The word for the layer, for texts that may not fail.
+    pub fn word(self) -> &'static str
+        ensures { result.now ≡ layer_word self }
+    {
+        match self {
             Layer::Frame => "frame",
             Layer::Record => "record",
             Layer::Job => "job",
             Layer::Report => "report",
             Layer::Board => "board",
-        })
+        }
+    }
+}
+
+impl fmt::Display for Layer {
+    ghost output = { λ layer. Some (layer_word layer) };
+
+    fn fmt<W: fmt::Write>(&self, f: &mut fmt::Formatter<W>) -> fmt::Result {
+        f.write_str(self.word())
     }
 }
 

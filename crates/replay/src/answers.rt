@@ -1,104 +1,78 @@
+use arrayvec::ArrayVec;
 use commands::command::LineFault;
 use lattice::board::Reading;
 use lattice::condition::Reply;
-use lattice::verdict::{Answer, Verdict};
+use lattice::verdict::Answer;
 use refusal::Refusal;
-use report::lines::refusal_text;
-use text::text::Text;
-use trace::clock::{Clock, PROCESSES};
+use report::lines::LONGEST;
+use std::fmt;
+use thiserror::Error;
+use trace::trace::Trace;
 
-pub fn line(words: &[u8]) -> Text {
-    let mut text = Text::new();
-    text.push_bytes(words);
-    text.push(b'\n');
-    text
+// What a line is answered by.
+#[derive(Drop)]
+pub enum Response<'a> {
+    New,
+    Taken(char),
+    // of a floor or a ceiling
+    Moved,
+    Ran(Answer),
+    Read(Reading),
+    Replied(Reply),
+    Reported(ArrayVec<u8, LONGEST>),
+    Clocks(&'a Trace),
 }
 
-pub fn fault(fault: LineFault) -> Text {
-    match fault {
-        LineFault::Unknown => line(b"error: no such command"),
-        LineFault::Words => line(b"error: a word is missing, or there is one too many"),
-        LineFault::Number => line(b"error: a word is no number, or the number is too great"),
-        LineFault::Condition => line(b"error: no such condition"),
-    }
-}
-
-pub fn taken(letter: char) -> Text {
-    match letter {
-        'T' => line(b"taken T"),
-        'M' => line(b"taken M"),
-        _ => line(b"taken -"),
-    }
-}
-
-// What a floor or a ceiling answers.
-pub fn bound(res: Result<(), Refusal>) -> Text {
-    match res {
-        Ok(()) => line(b"ok"),
-        Err(refusal) => refusal_text(&refusal),
-    }
-}
-
-pub fn run(answer: Answer) -> Text {
-    match answer {
-        Answer::Pending => line(b"pending"),
-        Answer::Found => line(b"found"),
-        Answer::None => line(b"none"),
-    }
-}
-
-pub fn reading(reading: &Reading) -> Text {
-    let mut text = Text::new();
-    match reading.verdict {
-        Verdict::Open => text.push_bytes(b"read open "),
-        Verdict::Found => text.push_bytes(b"read found "),
-        Verdict::None => text.push_bytes(b"read none "),
-    }
-    text.push_number(reading.count as u64);
-    for &height in reading.vector.heights() {
-        text.push(b' ');
-        text.push_number(height as u64);
-    }
-    text.push(b'\n');
-    text
-}
-
-pub fn reply(reply: Reply) -> Text {
-    match reply {
-        Reply::Holds => line(b"holds"),
-        Reply::Never => line(b"never"),
-        Reply::Lift((place, height)) => {
-            let mut text = Text::new();
-            text.push_bytes(b"lift ");
-            text.push_number(place as u64);
-            text.push(b' ');
-            text.push_number(height as u64);
-            text.push(b'\n');
-            text
+impl fmt::Display for Response<'_> {
+    fn fmt<W: fmt::Write>(&self, f: &mut fmt::Formatter<W>) -> fmt::Result {
+        match self {
+            Response::New => f.write_str("new"),
+            Response::Taken(letter) => write!(f, "taken {letter}"),
+            Response::Moved => f.write_str("ok"),
+            Response::Ran(answer) => write!(f, "{answer}"),
+            Response::Read(reading) => write_reading(f, reading),
+            Response::Replied(reply) => write!(f, "{reply}"),
+            Response::Reported(report) => write_joined(f, report),
+            Response::Clocks(trace) => write_clocks(f, trace),
         }
     }
+}
+
+fn write_reading<W: fmt::Write>(f: &mut fmt::Formatter<W>, reading: &Reading) -> fmt::Result {
+    write!(f, "read {} {}", reading.verdict, reading.count)?;
+    for height in reading.vector.heights() {
+        write!(f, " {height}")?;
+    }
+    Ok(())
 }
 
 // A report as one line, with a bar for each end of line.
-pub fn joined(report: &[u8]) -> Text {
-    let mut text = Text::new();
+fn write_joined<W: fmt::Write>(f: &mut fmt::Formatter<W>, report: &[u8]) -> fmt::Result {
     for &byte in report {
-        if byte == b'\n' {
-            text.push(b'|');
-        } else {
-            text.push(byte);
-        }
+        f.write_char(if byte == b'\n' { '|' } else { byte as char })?;
     }
-    text.push(b'\n');
-    text
+    Ok(())
 }
 
-// The first entries of a clock, with commas between them.
-pub fn clock(clock: &Clock, processes: usize) -> Text {
-    let mut text = Text::new();
-    for process in 0..processes.min(PROCESSES) {
-        text.push(if process == 0 { b' ' } else { b',' });
-        text.push_number(clock.entries[process] as u64);
+// The clock of each event in file order: an entry for each process, with commas between them.
+fn write_clocks<W: fmt::Write>(f: &mut fmt::Formatter<W>, trace: &Trace) -> fmt::Result {
+    f.write_str("clocks")?;
+    for clock in (0..trace.len()).filter_map(|at| trace.clock(at)) {
+        f.write_str(" ")?;
+        f.write_joined(clock.entries.iter().take(trace.processes()), ",")?;
     }
-    text
+    Ok(())
+}
+
+// Why a line is not answered.
+#[derive(Debug, Drop, Error)]
+pub enum Fault {
+    #[error("error: {0}")]
+    Line(#[from] LineFault),
+    #[error("error: the job is not in pairs of hexadecimal digits")]
+    Digits,
+    #[error("error: a height is above 1000000")]
+    Height,
+    #[error("{0}")]
+    Refused(#[from] Refusal),
 }

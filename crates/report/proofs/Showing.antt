@@ -1,15 +1,13 @@
 -- The text of a job that holds a form is the text of the form. Assumes nothing.
-use Rattle.std.proofs.Common.{◌≡◌, ℕ, zero, suc, ◌<◌, ◌≤◌, cond, eqb, ltb, List, [], ◌∷◌, ◌++◌, decimal, sym, refl, ap, ◌∙◌, ap₂, ⊎_elim, arith}
-use Rattle.std.proofs.lemmas.Bool.{cond-true, cond-false, cases_lt, lt-ltb, le-ltb, eq-eqb}
+use Rattle.std.proofs.Common.{◌≡◌, ℕ, zero, suc, ◌<◌, List, ◌++◌, refl, ap, ◌∙◌, ap₂, arith}
+use Rattle.std.proofs.lemmas.Bool.Decides.{nat_tests}
 use Rattle.lattice.specs.declared.vector.Vector.{Vector}
 use Rattle.lattice.specs.declared.verdict.Verdict.{Verdict}
 use Rattle.lattice.specs.declared.verdict.Verdict.TheVariants as verdict
 use Rattle.lattice.specs.Order.{at}
-use Rattle.gates.specs.Gates.{sides}
-use Rattle.gates.specs.Orders.{number_at}
 use Rattle.jobfile.specs.declared.job.Job.{Job}
 use Rattle.jobfile.specs.Forms.{Form, trace, gates, letter_of, size_of}
-use Rattle.jobfile.specs.Jobs.{places_of, Held}
+use Rattle.jobfile.specs.Jobs.{letter_of_job, places_of, Held}
 use Rattle.report.specs.Lines.{first_line, place_line, place_lines, report_text, gate_shown, shown_by}
 use Rattle.report.specs.Earliest.{shown_of}
 
@@ -21,11 +19,10 @@ same_lines shown other (suc n) same = ap₂ ◌++◌ (same_lines shown other n (
 -- the gate at a position is that of every order that agrees below n
 same_gate : (n : ℕ) (order other : ℕ → ℕ) (p : ℕ) → ((q : ℕ) → q < n → order q ≡ other q) → gate_shown n order p ≡ gate_shown n other p
 same_gate n order other p agree =
-    ⊎_elim (λ (l : p < n). ap (λ x. cond (ltb p n) (decimal x) (45 ∷ [])) (agree p l))
-    (λ (l : n ≤ p). cond-false (ltb p n) (decimal (order p)) (45 ∷ []) (le-ltb p n l) ∙ sym (cond-false (ltb p n) (decimal (other p)) (45 ∷ []) (le-ltb p n l)))
-    (cases_lt p n)
+    let here = agree p in
+    grind (arith, nat_tests)
 
-pub same_letter : (j : Job) (form : Form) → Held j form → j.letter ≡ letter_of form
+pub same_letter : (j : Job) (form : Form) → Held j form → letter_of_job j ≡ letter_of form
 same_letter j (trace n watch wish channels events) (held, _) = held.lettered
 same_letter j (gates n vans rows) (held, _) = held.lettered
 
@@ -36,16 +33,14 @@ same_places j (gates n vans rows) (held, _) = rw held.lettered held.count
 pub same_shown : (j : Job) (form : Form) → Held j form → (v : Vector) (i : ℕ) → i < size_of form → shown_by j v i ≡ shown_of form v i
 same_shown j (trace n watch wish channels events) (held, _) v i l = rw held.lettered refl
 same_shown j (gates n vans rows) (held, _) v i l =
-    let m = (sides j.gates).n in
-    let shown = gate_shown m ((sides j.gates).van i) (at v i) in
-    cond-true (eqb j.letter 77) (cond (ltb i m) shown (45 ∷ [])) (decimal (at v i)) (eq-eqb j.letter 77 held.lettered)
-    ∙ cond-true (ltb i m) shown (45 ∷ []) (lt-ltb i m (omega (arith, held.count)))
-    ∙ ap (λ k. gate_shown k ((sides j.gates).van i) (at v i)) held.count
-    ∙ same_gate n ((sides j.gates).van i) (number_at vans i) (at v i) (λ q lq. held.of_vans i q l lq)
+    let lettered = held.lettered in
+    let count = held.count in
+    let of_van = held.of_vans i (at v i) l in
+    grind (arith, nat_tests)
 
 -- the report of the job is that of the form
 pub same_report : (j : Job) (form : Form) → Held j form → (v : Vector) (word : Verdict) →
-    report_text j.letter (places_of j) (shown_by j v) word ≡ report_text (letter_of form) (size_of form) (shown_of form v) word
+    report_text (letter_of_job j) (places_of j) (shown_by j v) word ≡ report_text (letter_of form) (size_of form) (shown_of form v) word
 same_report j form held v verdict.Open = ap (λ letter. first_line letter verdict.Open) (same_letter j form held)
 same_report j form held v verdict.Found =
     ap₂ (λ letter lines. first_line letter verdict.Found ++ lines) (same_letter j form held)

@@ -1,33 +1,22 @@
 -- The text of a report, and where it is put. Assumes nothing.
-use Rattle.std.specs.Prelude.{◌≡◌, ℕ, zero, suc, ◌<◌, cond, List, [], ◌∷◌, ◌++◌, length, drop, codes, decimal, Result, MatchResult, ◌==◌, nat_lt}
-use Rattle.refusal.specs.declared.Layer.{Layer}
-use Rattle.refusal.specs.declared.Layer.TheVariants.{Frame, Record, Job, Report, Board}
+use Rattle.std.specs.Prelude.{◌≡◌, ℕ, zero, suc, ◌<◌, cond, List, [], ◌∷◌, ◌++◌, length, drop, decimal, Result, MatchResult, ◌==◌, nat_lt}
+use Rattle.refusal.specs.declared.Layer.TheVariants.{Report}
+use Rattle.refusal.specs.declared.Rule.TheVariants.{Room}
 use Rattle.refusal.specs.declared.Refusal.{Refusal}
+use Rattle.refusal.specs.Table.{row, refusal_words}
 use Rattle.lattice.specs.declared.vector.Vector.{Vector}
 use Rattle.lattice.specs.declared.board.Reading.{Reading}
 use Rattle.lattice.specs.declared.verdict.Verdict.{Verdict}
 use Rattle.lattice.specs.declared.verdict.Verdict.TheVariants.{Open, Found, None}
 use Rattle.lattice.specs.Order.{at}
+use Rattle.lattice.specs.Words.{verdict_word}
 use Rattle.gates.specs.Gates.{sides}
 use Rattle.jobfile.specs.declared.job.Job.{Job as TheJob}
-use Rattle.jobfile.specs.Jobs.{places_of}
-use Rattle.wire.specs.Parts.{row}
-
-abbrev pub layer_word : Layer → List ℕ
-layer_word Frame = codes "frame"
-layer_word Record = codes "record"
-layer_word Job = codes "job"
-layer_word Report = codes "report"
-layer_word Board = codes "board"
+use Rattle.jobfile.specs.Jobs.{letter_of_job, places_of}
 
 -- as in: refused 4 at 1 in frame
 abbrev pub text_of_refusal : Refusal → List ℕ
-text_of_refusal r = codes "refused " ++ (decimal r.number ++ (codes " at " ++ (decimal r.position ++ (codes " in " ++ (layer_word r.layer ++ (10 ∷ []))))))
-
-abbrev pub verdict_word : Verdict → List ℕ
-verdict_word Open = codes "open"
-verdict_word Found = codes "found"
-verdict_word None = codes "none"
+text_of_refusal r = refusal_words r ++ (10 ∷ [])
 
 -- job letter, space, verdict
 abbrev pub first_line : ℕ → Verdict → List ℕ
@@ -54,11 +43,11 @@ gate_shown n order p = cond (nat_lt p n) (decimal (order p)) (45 ∷ [])
 
 -- of a gates job the gate is shown, of every other the height
 abbrev pub shown_by : TheJob → Vector → ℕ → List ℕ
-shown_by j v i = cond (j.letter == 77) (cond (nat_lt i (sides j.gates).n) (gate_shown (sides j.gates).n ((sides j.gates).van i) (at v i)) (45 ∷ [])) (decimal (at v i))
+shown_by j v i = cond (letter_of_job j == 77) (cond (nat_lt i (sides j.gates).n) (gate_shown (sides j.gates).n ((sides j.gates).van i) (at v i)) (45 ∷ [])) (decimal (at v i))
 
 abbrev pub text_of_job : TheJob → Reading → List ℕ
-text_of_job j r = report_text j.letter (places_of j) (shown_by j r.vector) r.verdict
+text_of_job j r = report_text (letter_of_job j) (places_of j) (shown_by j r.vector) r.verdict
 
 -- the text stands at the front of the memory, and what stood behind it is unaltered; or it is longer than the memory, which stays as it was
 abbrev pub Placed : List ℕ → List ℕ → Result ℕ Refusal → List ℕ → Type 0
-Placed old text r new = MatchResult r (λ n. (n ≡ length text) × (new ≡ text ++ drop n old)) (λ e. (e ≡ row 12 (length text) Report) × (length old < length text) × (new ≡ old))
+Placed old text r new = MatchResult r (λ n. (n ≡ length text) × (new ≡ text ++ drop n old)) (λ e. (e ≡ row Room (length text) Report) × (length old < length text) × (new ≡ old))

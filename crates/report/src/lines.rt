@@ -1,101 +1,114 @@
-ghost use Rattle.std.specs.Prelude.{◌≡◌, ◌<◌};
+ghost use Rattle.std.specs.Prelude.{◌≡◌, ◌+◌, ◌<◌, ◌≤◌, ◌++◌};
+ghost use Rattle.arrayvec.specs.ArrayString.{array_string_len};
 ghost use Rattle.lattice.specs.Steps.{reading};
 ghost use Rattle.jobfile.specs.Jobs.{places_of};
-ghost use Rattle.text.specs.Texts.{written, added};
-ghost use Rattle.report.specs.Lines.{layer_word, verdict_word, text_of_refusal, place_line, place_lines, shown_by, text_of_job};
+ghost use Rattle.report.specs.Lines.{text_of_refusal, place_line, place_lines, shown_by, text_of_job};
 
+use arrayvec::ArrayString;
+use itoa::Buffer;
 use jobfile::job::Job;
 use lattice::board::Board;
 use lattice::vector::Vector;
 use lattice::verdict::Verdict;
-use refusal::{Layer, Refusal};
-use text::text::Text;
+use refusal::Refusal;
+use wire::frame::JobKind;
 
-const END_OF_LINE: u8 = b'\n';
+// No line of a refusal and no report has more bytes.
+pub const LONGEST: usize = 512;
 
-fn push_layer(text: &mut Text, layer: Layer)
-    ensures { written text.new ≡ added (written text.old) (layer_word layer) }
-{
-    match layer {
-        Layer::Frame => text.push_bytes(b"frame"),
-        Layer::Record => text.push_bytes(b"record"),
-        Layer::Job => text.push_bytes(b"job"),
-        Layer::Report => text.push_bytes(b"report"),
-        Layer::Board => text.push_bytes(b"board"),
-    }
-}
-
-fn push_verdict(text: &mut Text, verdict: Verdict)
-    ensures { written text.new ≡ added (written text.old) (verdict_word verdict) }
-{
-    match verdict {
-        Verdict::Open => text.push_bytes(b"open"),
-        Verdict::Found => text.push_bytes(b"found"),
-        Verdict::None => text.push_bytes(b"none"),
-    }
-}
+// A text in memory of its own.
+// Pushed and not written by `write!`: no clause says that a `fmt` succeeds where its writer does, and a report may not fail.
+pub type Text = ArrayString<LONGEST>;
 
 // The line of a refusal.
 pub fn refusal_text(refusal: &Refusal) -> Text
-    ensures { written result ≡ text_of_refusal refusal.now }
+    ensures { result.bytes ≡ text_of_refusal refusal.now }
 {
     let mut text = Text::new();
-    text.push_bytes(b"refused ");
-    text.push_number(refusal.number as u64);
-    text.push_bytes(b" at ");
-    text.push_number(refusal.position as u64);
-    text.push_bytes(b" in ");
-    push_layer(&mut text, refusal.layer);
-    text.push(END_OF_LINE);
+    text.push_str("refused ");
+    text.push_str(Buffer::new().format(refusal.number()));
+    text.push_str(" at ");
+    text.push_str(Buffer::new().format(refusal.position));
+    text.push_str(" in ");
+    text.push_str(refusal.layer.word());
+    text.push('\n');
     text
 }
 
-// What the line of a place shows: its height, or for gates the gate there.
-fn push_shown(text: &mut Text, job: &Job, vector: &Vector, place: usize)
-    requires { place < 32 }
-    ensures { written text.new ≡ added (written text.old) (shown_by job.now vector.now place) }
-{
-    let height = vector.heights()[place];
-    match job.letter() {
-        'M' => match job.gates_part().gate_at(place, height as usize) {
-            Some(gate) => text.push_number(gate as u64),
-            None => text.push(b'-'),
-        },
-        _ => text.push_number(height as u64),
+// What a report is about: a job, and the board of its search.
+#[derive(Clone, Copy)]
+pub struct Report<'a> {
+    pub job: &'a Job,
+    pub board: &'a Board,
+}
+
+impl Report<'_> {
+    // The report: the verdict, and after found a line for each place.
+    pub fn text(&self) -> Text
+        ensures { result.bytes ≡ text_of_job self.now.job.now (reading self.now.board.now) }
+    {
+        let reading = self.board.read();
+        let mut text = Text::new();
+        text.push(self.job.letter());
+        text.push(' ');
+        text.push_str(reading.verdict.word());
+        text.push('\n');
+        if reading.verdict == Verdict::Found {
+            let places = Places {
+                job: self.job,
+                vector: &reading.vector,
+            };
+            places.push_lines(&mut text);
+        }
+        text
     }
 }
 
-fn push_place(text: &mut Text, job: &Job, vector: &Vector, place: usize)
-    requires { place < 32 }
-    ensures { written text.new ≡ added (written text.old) (place_line place (shown_by job.now vector.now place)) }
-{
-    text.push_number(place as u64);
-    text.push(b' ');
-    push_shown(text, job, vector, place);
-    text.push(END_OF_LINE);
+// The places of a job, and the vector whose heights they show.
+#[derive(Clone, Copy)]
+struct Places<'a> {
+    job: &'a Job,
+    vector: &'a Vector,
 }
 
-fn push_places(text: &mut Text, job: &Job, vector: &Vector)
-    ensures { written text.new ≡ added (written text.old) (place_lines (shown_by job.now vector.now) (places_of job.now)) }
-{
-    for place in 0..job.places() {
-        push_place(text, job, vector, place);
+impl Places<'_> {
+    // A line has at most 25 bytes, and a job at most 16 places.
+    #[tactic(auto, using(crate::proofs::Fitting::places_few))]
+    fn push_lines(&self, text: &mut Text)
+        requires { array_string_len text.old + 400 ≤ LONGEST }
+        ensures { text.new.bytes ≡ text.old.bytes ++ place_lines (shown_by self.now.job.now self.now.vector.now) (places_of self.now.job.now) }
+    {
+        for place in 0..self.job.places() {
+            self.push_line(place, text);
+        }
     }
-}
 
-// The report of a job and its board.
-pub fn job_text(job: &Job, board: &Board) -> Text
-    ensures { written result ≡ text_of_job job.now (reading board.now) }
-{
-    let reading = board.read();
-    let mut text = Text::new();
-    text.push(job.letter() as u8);
-    text.push(b' ');
-    push_verdict(&mut text, reading.verdict);
-    text.push(END_OF_LINE);
-    match reading.verdict {
-        Verdict::Found => push_places(&mut text, job, &reading.vector),
-        _ => {}
+    fn push_line(&self, place: usize, text: &mut Text)
+        requires place { place < 32 }
+        requires room { array_string_len text.old + 25 ≤ LONGEST }
+        ensures bytes { text.new.bytes ≡ text.old.bytes ++ place_line place (shown_by self.now.job.now self.now.vector.now place) }
+        ensures short { array_string_len text.new ≤ array_string_len text.old + 25 }
+    {
+        text.push_str(Buffer::new().format(place as u8));
+        text.push(' ');
+        self.push_shown(place, text);
+        text.push('\n');
     }
-    text
+
+    // Its height, or for gates the gate there.
+    fn push_shown(&self, place: usize, text: &mut Text)
+        requires place { place < 32 }
+        requires room { array_string_len text.old + 20 ≤ LONGEST }
+        ensures bytes { text.new.bytes ≡ text.old.bytes ++ shown_by self.now.job.now self.now.vector.now place }
+        ensures short { array_string_len text.new ≤ array_string_len text.old + 20 }
+    {
+        let height = self.vector.heights()[place];
+        match self.job.kind() {
+            Some(JobKind::Gates) => match self.job.gates_part().gate_at(place, height as usize) {
+                Some(gate) => text.push_str(Buffer::new().format(gate)),
+                None => text.push('-'),
+            },
+            _ => text.push_str(Buffer::new().format(height)),
+        }
+    }
 }

@@ -8,7 +8,7 @@ use Rattle.trace.specs.declared.event.Action.{Action}
 use Rattle.trace.specs.declared.event.Action.TheVariants.{Local, Send, Receive}
 use Rattle.trace.specs.Events.{by, does, sends, source, Sending, Receiving}
 use Rattle.trace.specs.Rules.{SentTo, Valid}
-use Rattle.trace.specs.Tables.{sends_to, receives, Answers, Keeps}
+use Rattle.trace.specs.Tables.{sends_to, receives, Answers, KeepsRules}
 use Rattle.trace.proofs.Appended.{more, longer, old_does}
 
 -- an action that sends message m
@@ -104,7 +104,7 @@ sent_to es answers r =
       named = refl;
     }
 
-pub keeps : (n : ℕ) (es : List Event) → Valid n es → Keeps n es
+pub keeps : (n : ℕ) (es : List Event) → Valid n es → KeepsRules n es
 keeps n es v =
     record {
       short = v.few;
@@ -116,7 +116,7 @@ keeps n es v =
       answers = answers_from n es v;
     }
 
-pub valid_from : (n : ℕ) (es : List Event) → Keeps n es → Valid n es
+pub valid_from : (n : ℕ) (es : List Event) → KeepsRules n es → Valid n es
 valid_from n es k =
     record {
       few = k.short;

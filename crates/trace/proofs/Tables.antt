@@ -10,7 +10,7 @@ use Rattle.trace.specs.declared.trace.Ends.{Ends}
 use Rattle.trace.specs.Events.{most, event, by, number, total}
 use Rattle.trace.specs.Rules.{Valid}
 use Rattle.trace.specs.Clocks.{zeros, latest, mattern, clock}
-use Rattle.trace.specs.Tables.{recorded, rows, listed, Indexed, Tabled, Keeps}
+use Rattle.trace.specs.Tables.{recorded, rows, listed, Indexed, Tabled, KeepsRules}
 use Rattle.trace.proofs.Counts.{count_le, count_mono, count_here, number_is, number_total, numbered}
 use Rattle.trace.proofs.Clocks.{find_last}
 
@@ -21,7 +21,7 @@ listed_at (v ∷ vs) zero xs h is = is v
 listed_at (v ∷ vs) (suc i) xs h is = listed_at vs i xs (omega arith) is
 
 -- no events
-pub keeps_none : (n : ℕ) (steps : List Step) → steps ≡ [] → Keeps n (recorded steps)
+pub keeps_none : (n : ℕ) (steps : List Step) → steps ≡ [] → KeepsRules n (recorded steps)
 keeps_none n steps none =
     let short : length (recorded steps) ≡ 0 = ap (λ x. length (recorded x)) none in
     record {

@@ -58,7 +58,7 @@ abbrev pub Answers : List Event → (ℕ → ℕ) → Type 0
 Answers es from = (r : Receiving es) → (from r.message < r.at) × (sends_to (by es r.at) r.message (does es (from r.message)) ≡ true)
 
 -- the rules of a trace, as `Valid` has them, in the form that a trace keeps: it names no sending event, so it has one proof at most
-pub record Keeps (n : ℕ) (es : List Event) : Type 0 where
+pub record KeepsRules (n : ℕ) (es : List Event) : Type 0 where
   pub short : length es ≤ longest
   pub process : (e : ℕ) → e < length es → by es e < n
   pub receiver : (s : Sending es) → s.to < n

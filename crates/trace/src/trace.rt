@@ -2,7 +2,7 @@ ghost use Rattle.std.specs.Prelude.{◌≡◌, ◌≤◌, length, All, vec_len, 
 ghost use Rattle.std.proofs.Props.{props};
 ghost use Rattle.trace.specs.Events.{most, longest};
 ghost use Rattle.trace.specs.Clocks.{mattern};
-ghost use Rattle.trace.specs.Tables.{recorded, rows, listed, Keeps, Tabled};
+ghost use Rattle.trace.specs.Tables.{recorded, rows, listed, KeepsRules, Tabled};
 
 use crate::clock::{Clock, PROCESSES};
 use crate::event::Event;
@@ -36,13 +36,12 @@ pub struct Trace {
     n: usize,
     steps: Vec<Step>,
     places: [Vec<u16>; PROCESSES],
-    // Never cleared, so that beginning anew is cheap: what is read here is tested against the event. A map in its place
-    // would ask for memory in each push.
+    // No map, which would ask for memory in a push; never cleared, so that begin is cheap: what is read is tested against the event.
     messages: Vec<Ends>,
     ghost few: { n ≤ most },
     ghost room: { (longest ≤ vec_capacity steps) × All (λ v. longest ≤ vec_capacity v) places } by { Prim.hlevel props },
     ghost sized: { (length places ≡ most) × (vec_len messages ≡ 65536) },
-    ghost rules: { Keeps n (recorded steps.items) },
+    ghost rules: { KeepsRules n (recorded steps.items) },
     ghost tables: { Tabled (recorded steps.items) (listed places) messages.items },
     ghost clocked: { rows steps.items ≡ mattern (recorded steps.items) (length (recorded steps.items)) },
 }

@@ -13,6 +13,7 @@ impl TraceJob {
     fn greatest(&self, v: &Vector) -> Clock
         ensures { (j : ℕ) → j < processes self.now → slice_index result.entries j ≡ greatest (happened self.now) (at v.now) j (length (happened self.now)) }
     {
+        // A fold would take each clock apart by value, where `merge` changes one clock in place.
         let mut most = Clock::zero();
         for i in 0..self.trace.processes() {
             let last = self.trace.nth(i, v.heights()[i]);

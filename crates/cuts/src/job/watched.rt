@@ -43,8 +43,8 @@ impl TraceJob {
             ((i : ℕ) → i < processes self.now → unwanted (happened self.now) self.now.wish self.now.watch (at v.now) i ≡ false)
             (λ i. LowestUnwanted (processes self.now) (happened self.now) self.now.wish self.now.watch (at v.now) i) }
     {
-        (0..self.trace.processes()).find(|i| self.watches(*i)
-            && !self.is_wanted(*i, v.heights()[*i]))
+        let heights = v.heights();
+        (0..self.trace.processes()).find(|i| self.watches(*i) && !self.is_wanted(*i, heights[*i]))
     }
 
     // The reply to a vector within the events.

@@ -61,7 +61,7 @@ impl Gates {
         ensures { GateAt self.now van position result }
     {
         let order = self.vans[..self.count].get(van)?;
-        order.numbers().get(position).map(|&gate| gate as usize)
+        order.numbers().get(position).map(|&gate| usize::from(gate))
     }
 
     // What else holds of the condition: stability by rivals, free places, and a depot without vans.

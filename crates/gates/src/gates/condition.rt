@@ -21,6 +21,7 @@ impl Gates {
     }
 
     // Whether van j is a rival of van i at the gate g: one that has passed the gate still counts.
+    // That a number is below the count is asked where it is used: a type for it would be made anew at each step of a walk.
     fn rival(&self, v: &Vector, i: usize, g: usize, j: usize) -> bool
         requires { (i < self.now.count) × ((g < self.now.count) × (j < self.now.count)) }
         ensures { result ≡ is_rival (sides self.now) (at v.now) i g j }
@@ -35,10 +36,11 @@ impl Gates {
         ensures { Least (free (sides self.now) (at v.now) i) (at v.now i) self.now.count result }
     {
         let present = v.heights()[i] as usize;
-        // Over the positions and, for each, over the vans: the first rival leaves for the next position.
+        // Over the positions and, for each, over the vans by their numbers, by which a gate ranks them too: the first rival leaves for the next position.
         'next: for (past, &gate) in self.vans[i].numbers()[present..].iter().enumerate() {
+            let gate = usize::from(gate);
             for j in 0..self.count {
-                if self.rival(v, i, gate as usize, j) {
+                if self.rival(v, i, gate, j) {
                     continue 'next;
                 }
             }

@@ -6,7 +6,7 @@ use Rattle.commands.proofs.hex.decode.Goals.{then-i-memory, else-i-memory}
 
 pub returns-then-not-is_empty : goal.returns-then-not-is_empty
 returns-then-not-is_empty c bytes s =
-    let some = eqb-false _ 0 (sym c.is_empty.ensures ∙ c.if-not-is_empty.true) in
+    let some = eqb-false (length c.as_chunks.result.1.now) 0 (sym c.is_empty.ensures ∙ c.if-not-is_empty.true) in
     omega (arith, spells_length s, some, c.as_chunks.ensures.back_len)
 
 pub returns-in_err-digit : goal.returns-in_err-digit
@@ -31,7 +31,7 @@ loop-i-preserved c =
 
 pub returns : goal.returns
 returns c =
-    let none = eqb-true _ 0 (sym c.is_empty.ensures ∙ c.if-not-is_empty.false) in
+    let none = eqb-true (length c.as_chunks.result.1.now) 0 (sym c.is_empty.ensures ∙ c.if-not-is_empty.false) in
     let all : length c.as_chunks.result.0.now ≡ c.loop-i.i = omega arith in
     decoded c.args.word.now c.loop-i.i c.min.result c.loop-i.memory (omega (arith, none, c.as_chunks.ensures.back_len))
     (c.min.ensures ∙ ap (λ i. min i (length c.loop-i.memory)) all) c.loop-i.invariant

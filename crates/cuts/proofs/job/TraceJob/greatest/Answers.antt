@@ -6,14 +6,11 @@ use Rattle.trace.specs.Clocks.{merged}
 use Rattle.trace.specs.Growth.{ClockAt, NthAt}
 use Rattle.trace.proofs.Traces.{valid}
 use Rattle.cuts.specs.Jobs.{processes, happened}
-use Rattle.cuts.specs.Greatest.{Merged, merged_none, merged_greatest}
+use Rattle.cuts.specs.Greatest.{Merged, merged_greatest}
 use Rattle.cuts.proofs.Found.{match_then}
 use Rattle.cuts.proofs.Merging.{merge_found}
 use Rattle.cuts.proofs.job.TraceJob.greatest.Goals as goal
 use Rattle.cuts.proofs.job.TraceJob.greatest.Goals.{in-Some, in_default}
-
-pub loop-i-init : goal.loop-i-init
-loop-i-init c = subst (Merged (happened c.args.self.now) (at c.args.v.now) 0) (sym c.zero-most.ensures) (merged_none _ _)
 
 pub loop-i-preserved : goal.loop-i-preserved
 loop-i-preserved c =

@@ -6,9 +6,6 @@ use Rattle.cuts.specs.Jobs.{processes, happened, listed}
 use Rattle.cuts.specs.Levels.{reply_uneven, reply_level}
 use Rattle.cuts.proofs.job.TraceJob.lift_uneven.Goals as goal
 
-pub loop-channel-init : goal.loop-channel-init
-loop-channel-init c = λ k lt. absurd (omega arith)
-
 pub returns-in-Some : goal.returns-in-Some
 returns-in-Some c inside =
     let j = c.args.self.now in

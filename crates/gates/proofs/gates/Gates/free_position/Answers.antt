@@ -14,7 +14,7 @@ next-preserved c =
     let s = sides m in
     let h = at c.args.v.now in
     let from = get_or c.heights.result.now c.args.i 0 in
-    let gate = left_at m.count m.vans c.args.i c.index-self-i.result m.even.0 (omega arith) c.numbers.result.now c.numbers.ensures from c.next.past c.next-test.true in
+    let gate = c.from-gate.ensures ∙ left_at m.count m.vans c.args.i c.index-self-i.result m.even.0 (omega arith) c.numbers.result.now c.numbers.ensures from c.next.past c.next-test.true in
     let here : free s h c.args.i (from + c.next.past) ≡ false = not_free s h c.args.i (from + c.next.past) _ c.loop-j.j gate (search rules) (sym c.rival.ensures ∙ c.if-rival.true) in
     λ k lo hi. range_more (λ k. free s h c.args.i k ≡ false) (h c.args.i) (from + c.next.past) c.next.invariant here k lo (omega arith)
 
@@ -24,7 +24,7 @@ returns-in-next c =
     let i = c.args.i in
     let from = get_or c.heights.result.now i 0 in
     let present : from ≡ at c.args.v.now i = ap (λ xs. get_or xs i 0) c.heights.ensures in
-    let gate = left_at m.count m.vans i c.index-self-i.result m.even.0 (omega arith) c.numbers.result.now c.numbers.ensures from c.next.past c.next-test.true in
+    let gate = c.from-gate.ensures ∙ left_at m.count m.vans i c.index-self-i.result m.even.0 (omega arith) c.numbers.result.now c.numbers.ensures from c.next.past c.next-test.true in
     let long = left_long m.count m.vans i c.index-self-i.result m.even.0 (omega arith) c.numbers.result.now c.numbers.ensures from in
     record {
       low = omega arith;

@@ -5,7 +5,7 @@ use Rattle.std.proofs.lemmas.Result.{err_from_is_err_and}
 use Rattle.trace.specs.Events.{most, longest, sends}
 use Rattle.trace.specs.Clocks.{mattern}
 use Rattle.trace.specs.Growth.{events, Refused, Pushed, ticked}
-use Rattle.trace.specs.Tables.{rows, listed, receives, sent_at, received_at, Keeps}
+use Rattle.trace.specs.Tables.{rows, listed, receives, sent_at, received_at, KeepsRules}
 use Rattle.trace.proofs.Counts.{count_le}
 use Rattle.trace.proofs.Grown.{grown, grown_as}
 use Rattle.trace.proofs.Pushed.{listed_push, tabled_as, sent_within}
@@ -50,7 +50,7 @@ invariant_of-self-clause-sized c =
 pub invariant_of-self-clause-rules : goal.invariant_of-self-clause-rules
 invariant_of-self-clause-rules c =
     let t = c.args.self.now in
-    subst (Keeps t.n) (sym (recorded_push _ _ _ c.push_reserved-2.ensures.items))
+    subst (KeepsRules t.n) (sym (recorded_push _ _ _ c.push_reserved-2.ensures.items))
     (keeps t.n _ (grown t.n (events t) c.args.event (valid t) c.in_ok-sent.ensures.0))
 
 pub invariant_of-self-clause-tables : goal.invariant_of-self-clause-tables
