@@ -1,7 +1,6 @@
 -- What the fields of a trace say. Assumes nothing.
 use Rattle.std.proofs.Common.{◌≡◌, ℕ, ◌<◌, ◌≤◌, true, false, Bool, List, [], map, length, get_or, vec_len, vec_capacity, Option, MatchOption, Some, None, Err, sym, refl, ap, ◌∙◌, subst, ⊎_elim, arith}
 use Rattle.std.specs.Global.{Vec}
-use Rattle.std.specs.Option.{unwrap_or}
 use Rattle.std.proofs.lemmas.List.{length-map, get_or-map, get_or_past}
 use Rattle.std.proofs.lemmas.Bool.{cases_lt, both_ways, eq-eqb}
 use Rattle.trace.specs.declared.trace.Trace.{Trace}
@@ -13,9 +12,9 @@ use Rattle.trace.specs.declared.event.Action.{Action}
 use Rattle.trace.specs.declared.event.EventFault.{EventFault}
 use Rattle.trace.specs.Events.{does, total, sends, Sending, Receiving}
 use Rattle.trace.specs.Rules.{Valid}
-use Rattle.trace.specs.Clocks.{zeros, latest, mattern, clock, Knows}
+use Rattle.trace.specs.Clocks.{zeros, mattern, clock, Knows}
 use Rattle.trace.specs.Tables.{listed, receives, Finds}
-use Rattle.trace.specs.Growth.{events, Refused, Pushed, ClockOf, ClockAt, NthAt, SenderAt, ReceiverAt}
+use Rattle.trace.specs.Growth.{events, last_clock, Refused, Pushed, ClockOf, ClockAt, NthAt, SenderAt, ReceiverAt}
 use Rattle.trace.proofs.Sources.{sends_is, sends_at, source_is, receives_is, valid_from}
 use Rattle.trace.proofs.Tables.{total_none, total_few, latest_at, latest_none, length_recorded, clock_read}
 use Rattle.trace.proofs.Known.{clock_knows}
@@ -61,14 +60,15 @@ clock_found t e None found = omega (arith, length_recorded t.steps.items)
 clock_found t e (Some k) found = clock_of t e k found.0 found.1
 
 -- the clock of the last event of a process, as it is looked up
-pub latest_found : (t : Trace) (i h : ℕ) (e : Option ℕ) (k : Option Clock) (z : Clock) → h ≡ total (events t) i → NthAt t i h e → MatchOption e (k ≡ None) (λ x. ClockAt t x k) →
-    z.entries ≡ zeros → (unwrap_or k z).entries ≡ latest (events t) (mattern (events t) (length (events t))) i (length (events t))
-latest_found t i h None k z all none found is =
+pub latest_found : (t : Trace) (i h : ℕ) (e : Option ℕ) (z k : Clock) → h ≡ total (events t) i → NthAt t i h e → z.entries ≡ zeros →
+    MatchOption e (k ≡ z) (λ x. x < length t.steps.items → (d : Step) → k ≡ (get_or t.steps.items x d).clock) → k.entries ≡ last_clock (events t) i
+latest_found t i h None z k all none is found =
     let no' : total (events t) i ≡ 0 = ⊎_elim (λ pos. absurd (none (omega arith) (omega arith))) (λ ge. omega arith) (cases_lt 0 (total (events t) i)) in
-    ap (λ x. (unwrap_or x z).entries) found ∙ is ∙ sym (latest_none (events t) (mattern (events t) (length (events t))) i no')
-latest_found t i h (Some e) None z all last found is = absurd (omega (arith, last.0))
-latest_found t i h (Some e) (Some k) z all last found is =
-    found.rule ∙ sym (latest_at (events t) (mattern (events t) (length (events t))) i e last.0 last.1 (last.2 ∙ all))
+    ap (λ x. x.entries) found ∙ is ∙ sym (latest_none (events t) (mattern (events t) (length (events t))) i no')
+latest_found t i h (Some e) z k all last is found =
+    let h : e < length t.steps.items = omega (arith, last.0, length_recorded t.steps.items) in
+    clock_read t.steps.items e k t.clocked h (found h)
+    ∙ sym (latest_at (events t) (mattern (events t) (length (events t))) i e last.0 last.1 (last.2 ∙ all))
 
 -- where a table of messages finds events, and the event at the place that it has is none, there is none
 missed : (t : Trace) (test : ℕ → Action → Bool) (f : Ends → ℕ) (m : ℕ) (x : Ends) → Finds test (events t) (map f t.messages.items) → m < 65536 → x ≡ get_or t.messages.items m x →

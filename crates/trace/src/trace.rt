@@ -15,11 +15,11 @@ pub const LONGEST: usize = 1024;
 
 pub const MESSAGES: usize = 65_536;
 
-// An event with its clock.
+// An event with its clock. The clock stands first, since a push then writes it faster.
 #[derive(Clone, Copy)]
 struct Step {
-    event: Event,
     clock: Clock,
+    event: Event,
 }
 
 // The places of the events that send and receive a message, if there are such events.

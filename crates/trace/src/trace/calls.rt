@@ -113,8 +113,7 @@ impl Trace {
         ensures { result.entries ≡ last_clock (events self.now) process }
     {
         self.nth(process, self.total(process))
-            .and_then(|last| self.clock(last))
-            .unwrap_or(Clock::zero())
+            .map_or(Clock::zero(), |last| self.steps[last].clock)
     }
 }
 
