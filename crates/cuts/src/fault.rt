@@ -4,7 +4,7 @@ ghost use Rattle.cuts.specs.declared.fault.JobFault.TheVariants.{Event};
 use trace::event::EventFault;
 
 // Why a part of a trace job is refused.
-#[derive(Clone, Copy)]
+#[derive(Clone, Copy, Debug, PartialEq, Eq)]
 pub enum JobFault {
     // more than 16 processes
     Processes,

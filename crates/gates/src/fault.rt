@@ -15,10 +15,10 @@ impl fmt::Display for OrderFault {
     ghost output = { λ e. Some (fault_text e) };
 
     fn fmt<W: fmt::Write>(&self, f: &mut fmt::Formatter<W>) -> fmt::Result {
-        match self {
-            OrderFault::Row => write!(f, "there is no such row"),
-            OrderFault::Order => write!(f, "not every number below the count once"),
-        }
+        f.write_str(match self {
+            OrderFault::Row => "there is no such row",
+            OrderFault::Order => "not every number below the count once",
+        })
     }
 }
 

@@ -40,7 +40,7 @@ pub trait Condition {
 }
 
 // A condition that is lent and not owned is the same condition.
-impl<'a, C: Condition> Condition for &'a C {
+impl<C: Condition> Condition for &C {
     ghost holds = { λ c v. C.Condition.holds c.now v };
 
     ghost reply = { λ c v. C.Condition.reply c.now v };

@@ -6,45 +6,30 @@ ghost use Rattle.refusal.specs.Table.{number_of, layer_word, refusal_words};
 use std::error::Error;
 use std::fmt;
 
-// The rules that a file or a call can break, as the rows of the table of refusals have them.
+// The rules that a file or a call can break, with their numbers in the table of refusals.
 #[derive(Clone, Copy, Debug, PartialEq, Eq)]
 pub enum Rule {
-    TooLong,
-    Missing,
-    Version,
-    Length,
-    Letter,
-    Count,
-    Field,
-    Event,
-    Message,
-    Row,
-    Behind,
-    Room,
-    Place,
-    Height,
+    TooLong = 1,
+    Missing = 2,
+    Version = 3,
+    Length = 4,
+    Letter = 5,
+    Count = 6,
+    Field = 7,
+    Event = 8,
+    Message = 9,
+    Row = 10,
+    Behind = 11,
+    Room = 12,
+    Place = 13,
+    Height = 14,
 }
 
 impl From<Rule> for u8 {
     ghost from_gives = { λ rule number. number ≡ number_of rule };
 
     fn from(rule: Rule) -> u8 {
-        match rule {
-            Rule::TooLong => 1,
-            Rule::Missing => 2,
-            Rule::Version => 3,
-            Rule::Length => 4,
-            Rule::Letter => 5,
-            Rule::Count => 6,
-            Rule::Field => 7,
-            Rule::Event => 8,
-            Rule::Message => 9,
-            Rule::Row => 10,
-            Rule::Behind => 11,
-            Rule::Room => 12,
-            Rule::Place => 13,
-            Rule::Height => 14,
-        }
+        rule as u8
     }
 }
 

@@ -69,6 +69,7 @@ impl Session {
     }
 
     fn reply(&self, asked: Asked, vector: &Vector) -> Reply {
+        // An arm for each: the conditions are of different types, and which one is asked is known only from the line.
         match asked {
             Asked::Job => self.job.condition().probe(vector),
             Asked::Consistent => self.job.consistent().probe(vector),

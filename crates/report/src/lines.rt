@@ -78,6 +78,7 @@ impl Places<'_> {
         requires { array_string_len text.old + 400 ≤ LONGEST }
         ensures { text.new.bytes ≡ text.old.bytes ++ place_lines (shown_by self.now.job.now self.now.vector.now) (places_of self.now.job.now) }
     {
+        // Over the places by their numbers, which are what each line begins with.
         for place in 0..self.job.places() {
             self.push_line(place, text);
         }

@@ -11,10 +11,7 @@ fn refuses(
     position: usize,
     layer: Layer,
 ) -> Result<(), Fail> {
-    let Err(refusal) = job.read(file) else {
-        assert!(rt; false);
-        return Ok(());
-    };
+    let refusal = job.read(file).err().ok_or("taken")?;
     assert_eq!(rt; refusal.number(), number);
     assert_eq!(rt; refusal.position, position);
     assert_eq!(rt; refusal.layer, layer);

@@ -18,7 +18,7 @@ pub struct Event {
 }
 
 // Why an event is refused: there is no room, no such process, no such receiver, or a message rule is broken.
-#[derive(Clone, Copy, PartialEq, Eq)]
+#[derive(Clone, Copy, Debug, PartialEq, Eq)]
 pub enum EventFault {
     Full,
     Process,

@@ -51,6 +51,7 @@ impl TraceJob {
     fn lift_unwanted(&self, v: &Vector) -> Reply
         ensures { beyond (processes self.now) (happened self.now) (at v.now) ≡ false → WatchedSays self.now v.now result }
     {
+        // A match: of what a closure returns that makes two calls nothing was proved.
         match self.lowest_unwanted(v) {
             Some(i) => lift_to(i, self.next_wanted(i, v.heights()[i])),
             None => Reply::Holds,
