@@ -1,6 +1,5 @@
 -- The worked example of a trace. Assumes nothing.
 use Rattle.std.proofs.Common.{[], ◌∷◌, refl, lit≤}
-use Rattle.lattice.specs.declared.vector.Vector.{Vector}
 use Rattle.lattice.specs.declared.board.Board.{Board}
 use Rattle.lattice.specs.declared.verdict.Verdict as verdict
 use Rattle.lattice.specs.Limits.{deciding}
@@ -10,35 +9,20 @@ use Rattle.examples.specs.Samples.{link, replies}
 use Rattle.examples.specs.Traces.{Sampled}
 use Rattle.examples.proofs.Boards.{board, two, tops, fresh, started, searches, gives}
 
-abbrev v00 : Vector
-v00 = two 0 0 refl
-
-abbrev v10 : Vector
-v10 = two 1 0 refl
-
-abbrev v11 : Vector
-v11 = two 1 1 refl
-
-abbrev v12 : Vector
-v12 = two 1 2 refl
-
-abbrev v13 : Vector
-v13 = two 1 3 refl
-
 abbrev linked : Board
-linked = board v13 tops verdict.TheVariants.Found 4 (lit≤ tt)
+linked = board (two 1 3 refl) tops verdict.TheVariants.Found 4 (lit≤ tt)
 
 to_linked : RunStep (replies (Code 5) (link ∷ [])) deciding fresh 4 linked
-to_linked = searches refl (lift {w = v13} (lift {w = v12} (lift {w = v11} (lift {w = v10} stay refl (lit≤ tt) refl) refl (lit≤ tt) refl) refl (lit≤ tt) refl) refl (lit≤ tt) refl) (lit≤ tt) (holds refl) refl refl
+to_linked = searches refl (lift {w = two 1 3 refl} (lift {w = two 1 2 refl} (lift {w = two 1 1 refl} (lift {w = two 1 0 refl} stay refl (lit≤ tt) refl) refl (lit≤ tt) refl) refl (lit≤ tt) refl) refl (lit≤ tt) refl) (lit≤ tt) (holds refl) refl refl
 
 abbrev unlinked : Board
-unlinked = board v11 tops verdict.TheVariants.Found 2 (lit≤ tt)
+unlinked = board (two 1 1 refl) tops verdict.TheVariants.Found 2 (lit≤ tt)
 
 to_unlinked : RunStep (replies (Code 5) []) deciding fresh 2 unlinked
-to_unlinked = searches refl (lift {w = v11} (lift {w = v10} stay refl (lit≤ tt) refl) refl (lit≤ tt) refl) (lit≤ tt) (holds refl) refl refl
+to_unlinked = searches refl (lift {w = two 1 1 refl} (lift {w = two 1 0 refl} stay refl (lit≤ tt) refl) refl (lit≤ tt) refl) (lit≤ tt) (holds refl) refl refl
 
 abbrev unwished : Board
-unwished = board v00 tops verdict.TheVariants.None 0 (lit≤ tt)
+unwished = board (two 0 0 refl) tops verdict.TheVariants.None 0 (lit≤ tt)
 
 to_unwished : RunStep (replies (Code 9) (link ∷ [])) deciding fresh 0 unwished
 to_unwished = searches refl stay (lit≤ tt) (never refl) refl refl

@@ -11,21 +11,6 @@ use Rattle.examples.specs.Depots.{alike, apart, replies}
 use Rattle.examples.specs.Gates.{Alike, Apart}
 use Rattle.examples.proofs.Boards.{vector, board, two, tops, fresh, started, rises, searches, gives}
 
-abbrev v00 : Vector
-v00 = two 0 0 refl
-
-abbrev v10 : Vector
-v10 = two 1 0 refl
-
-abbrev v11 : Vector
-v11 = two 1 1 refl
-
-abbrev v20 : Vector
-v20 = two 2 0 refl
-
-abbrev v21 : Vector
-v21 = two 2 1 refl
-
 -- the ceilings with ceiling 0 at place 0
 abbrev low : Vector
 low = vector (0 ∷ replicate 31 highest) refl refl
@@ -35,19 +20,19 @@ nothing : RunStep (replies alike) 0 fresh 0 fresh
 nothing = searches refl stay (lit≤ tt) (spent (0, 1, refl, lit≤ tt) refl) refl refl
 
 abbrev moved : Board
-moved = board v10 tops verdict.TheVariants.Found 1 (lit≤ tt)
+moved = board (two 1 0 refl) tops verdict.TheVariants.Found 1 (lit≤ tt)
 
 one : RunStep (replies alike) 1 fresh 1 moved
 one = searches refl (lift stay refl (lit≤ tt) refl) (lit≤ tt) (holds refl) refl refl
 
 abbrev lowered : Board
-lowered = board v00 low verdict.TheVariants.Open 0 (lit≤ tt)
+lowered = board (two 0 0 refl) low verdict.TheVariants.Open 0 (lit≤ tt)
 
 lower : CeilingStep 0 0 fresh lowered
 lower = record { vector = refl; ceilings = refl; count = refl; over = λ lt. absurd (omega arith); kept = λ le. refl }
 
 abbrev shut : Board
-shut = board v00 low verdict.TheVariants.None 0 (lit≤ tt)
+shut = board (two 0 0 refl) low verdict.TheVariants.None 0 (lit≤ tt)
 
 shuts : RunStep (replies alike) 0 lowered 0 shut
 shuts = searches refl stay (lit≤ tt) (above {p = 0} {h = 1} refl (lit< tt)) refl refl
@@ -61,14 +46,14 @@ alike_stands = record {
 
 -- each van at its best gate
 abbrev best : Board
-best = board v00 tops verdict.TheVariants.Found 0 (lit≤ tt)
+best = board (two 0 0 refl) tops verdict.TheVariants.Found 0 (lit≤ tt)
 
 first : RunStep (replies apart) deciding fresh 0 best
 first = searches refl stay (lit≤ tt) (holds refl) refl refl
 
 -- van 0 is moved on by a floor, which opens what was found
 abbrev raised : Board
-raised = board v10 tops verdict.TheVariants.Open 0 (lit≤ tt)
+raised = board (two 1 0 refl) tops verdict.TheVariants.Open 0 (lit≤ tt)
 
 raise : FloorStep 0 1 best raised
 raise = rises refl refl refl (lit≤ tt) (lit< tt) refl
@@ -78,32 +63,32 @@ raise_new = rises refl refl refl (lit≤ tt) (lit< tt) refl
 
 -- van 1 gives way to it
 abbrev swapped : Board
-swapped = board v11 tops verdict.TheVariants.Found 1 (lit≤ tt)
+swapped = board (two 1 1 refl) tops verdict.TheVariants.Found 1 (lit≤ tt)
 
 second : RunStep (replies apart) deciding raised 1 swapped
 second = searches refl (lift stay refl (lit≤ tt) refl) (lit≤ tt) (holds refl) refl refl
 
 -- past its last gate there is nothing
 abbrev past : Board
-past = board v21 tops verdict.TheVariants.Open 1 (lit≤ tt)
+past = board (two 2 1 refl) tops verdict.TheVariants.Open 1 (lit≤ tt)
 
 raise_past : FloorStep 0 2 swapped past
 raise_past = rises refl refl refl (lit≤ tt) (lit< tt) refl
 
 abbrev lost : Board
-lost = board v21 tops verdict.TheVariants.None 1 (lit≤ tt)
+lost = board (two 2 1 refl) tops verdict.TheVariants.None 1 (lit≤ tt)
 
 third : RunStep (replies apart) deciding past 0 lost
 third = searches refl stay (lit≤ tt) (never refl) refl refl
 
 abbrev past_new : Board
-past_new = board v20 tops verdict.TheVariants.Open 0 (lit≤ tt)
+past_new = board (two 2 0 refl) tops verdict.TheVariants.Open 0 (lit≤ tt)
 
 raise_past_new : FloorStep 0 2 fresh past_new
 raise_past_new = rises refl refl refl (lit≤ tt) (lit< tt) refl
 
 abbrev lost_new : Board
-lost_new = board v20 tops verdict.TheVariants.None 0 (lit≤ tt)
+lost_new = board (two 2 0 refl) tops verdict.TheVariants.None 0 (lit≤ tt)
 
 third_new : RunStep (replies apart) deciding past_new 0 lost_new
 third_new = searches refl stay (lit≤ tt) (never refl) refl refl
