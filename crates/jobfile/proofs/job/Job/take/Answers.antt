@@ -1,7 +1,7 @@
 use Rattle.std.proofs.Common.{◌≡◌, ap}
-use Rattle.std.proofs.lemmas.Result.{err_from_is_err_and}
 use Rattle.wire.specs.Frames.{job_letter}
 use Rattle.jobfile.specs.Table.{frame}
+use Rattle.jobfile.proofs.Taking.{err_exit}
 use Rattle.jobfile.proofs.Finishing.{Begins, Taken, trace_fails, gates_fails, trace_taken, gates_taken, end_fails, all_taken}
 use Rattle.jobfile.specs.declared.job.Job.{Job}
 use Rattle.jobfile.specs.Jobs.{letter_of_job}
@@ -10,21 +10,18 @@ use Rattle.jobfile.proofs.job.Job.take.Goals.{After-end, in-Trace+in_ok-trace_bo
 
 pub returns-in_err-frame : goal.returns-in_err-frame
 returns-in_err-frame c =
-    let p = err_from_is_err_and c.from_residual.result c.from_residual.ensures.1 in
-    rw (p.1, p.2) (frame c.in_err-frame.ensures)
+    err_exit _ _ _ c.from_residual.ensures.1 (frame c.in_err-frame.ensures)
 
 pub returns-in_err-trace_body-in-Trace : goal.returns-in_err-trace_body-in-Trace
 returns-in_err-trace_body-in-Trace c =
-    let p = err_from_is_err_and c.from_residual-in_err-trace_body-in-Trace.result c.from_residual-in_err-trace_body-in-Trace.ensures.1 in
-    rw (p.1, p.2)
-    (trace_fails c.args.file.now (job_letter c.in_ok-frame.frame.kind) c.in_ok-frame.frame.n c.new-reader.result _
+    err_exit _ _ _ c.from_residual-in_err-trace_body-in-Trace.ensures.1
+    (trace_fails _ _ _ c.new-reader.result _
     (record { framed = c.in_ok-frame.ensures; total = c.new-reader.ensures.total; rest = c.new-reader.ensures.rest }) (ap job_letter c.in-Trace.is) c.in_err-trace_body-in-Trace.ensures)
 
 pub returns-in_err-placing-in-Gates : goal.returns-in_err-placing-in-Gates
 returns-in_err-placing-in-Gates c =
-    let p = err_from_is_err_and c.from_residual-in_err-placing-in-Gates.result c.from_residual-in_err-placing-in-Gates.ensures.1 in
-    rw (p.1, p.2)
-    (gates_fails c.args.file.now (job_letter c.in_ok-frame.frame.kind) c.in_ok-frame.frame.n c.new-reader.result _
+    err_exit _ _ _ c.from_residual-in_err-placing-in-Gates.ensures.1
+    (gates_fails _ _ _ c.new-reader.result _
     (record { framed = c.in_ok-frame.ensures; total = c.new-reader.ensures.total; rest = c.new-reader.ensures.rest }) (ap job_letter c.in-Gates.is) c.in_err-placing-in-Gates.ensures)
 
 begins : (c : After-end) → Begins c.args.file.now (job_letter c.in_ok-frame.frame.kind) c.in_ok-frame.frame.n c.new-reader.result
@@ -41,8 +38,7 @@ taken c = elim c.match-frame.branch [
 
 pub returns-in_err-end : goal.returns-in_err-end
 returns-in_err-end c =
-    let p = err_from_is_err_and c.from_residual-in_err-end.result c.from_residual-in_err-end.ensures.1 in
-    rw (p.1, p.2) (end_fails _ _ _ _ _ _ _ (taken (goal.at.returns-in_err-end c).After-end) _ c.in_err-end.ensures)
+    err_exit _ _ _ c.from_residual-in_err-end.ensures.1 (end_fails _ _ _ _ _ _ _ (taken (goal.at.returns-in_err-end c).After-end) _ c.in_err-end.ensures)
 
 pub returns : goal.returns
 returns c =
