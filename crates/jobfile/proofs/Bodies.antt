@@ -42,6 +42,13 @@ pub record SoFar (n : ℕ) (before left : Reader) (front : List ℕ) (Rest : ℕ
 pub none_yet : (n : ℕ) (before : Reader) → SoFar n before before [] (TraceBroken n)
 none_yet n before = record { is = refl; total = refl; breaks = λ r b. b }
 
+-- how far a body was read, and what is to follow
+pub record Progress (n : ℕ) (before : Reader) : Type 1 where
+  pub left : Reader
+  pub front : List ℕ
+  pub Rest : ℕ → List ℕ → Refusal → Type 0
+  pub so : SoFar n before left front Rest
+
 -- the bytes of a good value stand where `left` begins, and `end` is what follows them
 abbrev pub Stood : {A : Type 0} → (A → Type 0) → (A → List ℕ) → A → Reader → Reader → Type 0
 Stood Good bytes a left end = Good a × (left.rest.now ≡ bytes a ++ end.rest.now) × (end.total ≡ left.total)
@@ -57,7 +64,7 @@ one_more {bytes = bytes} {After = After} {left = left} {front = front} so end a 
 }
 
 -- the channels of a job that is begun anew
-module _ {n watch : ℕ} {wish : Wish} {j : TraceJob} (new : Anew n watch wish j) (k : TraceJob) (count : ℕ) (left end : Reader) (read : ChannelsRead count left end j k) where
+module _ {n watch count : ℕ} {wish : Wish} {j k : TraceJob} {left end : Reader} (new : Anew n watch wish j) (read : ChannelsRead count left end j k) where
   pub channels_stand : Stood (λ xs. (length xs ≡ count) × AllByRecursion (ChannelOk n) xs) (flat_map channel_bytes) (listed k) left end
   channels_stand = ((read.many, subst (λ m. AllByRecursion (ChannelOk m) (listed k)) new.count read.ok), read.took.is, read.took.total)
 
@@ -92,13 +99,13 @@ abbrev front_of : ℕ → ℕ → Wish → ℕ → List Channel → ℕ → List
 front_of letter watch wish count channels many = (((((letter ∷ []) ++ word2 watch) ++ wish_bytes wish) ++ count ∷ []) ++ flat_map channel_bytes channels) ++ word2 many
 
 -- all was read but the events
-module _ (n letter watch count many : ℕ) (wish : Wish) (start middle before left : Reader) (j k : TraceJob) (new : Anew n watch wish j) (channels : ChannelsRead count start middle j k)
+module _ {n watch count : ℕ} {wish : Wish} {start middle before left : Reader} {j k : TraceJob} (letter many : ℕ) (new : Anew n watch wish j) (channels : ChannelsRead count start middle j k)
     (bits : watch < 2 ^ n) (wished : WishOf letter wish) (few : count ≤ 8) (so : SoFar n before left (front_of letter watch wish count (listed k) many) (λ total. EventsBroken n wish many total)) where
   same_count : processes k ≡ n
-  same_count = still_count new k count start middle channels
+  same_count = still_count new channels
 
   same_wish : k.wish ≡ wish
-  same_wish = still_wish new k count start middle channels
+  same_wish = still_wish new channels
 
   -- and these are broken
   events_break : (r : Refusal) → EventsBroken (processes k) k.wish many left.total left.rest.now r → TraceBroken n before.total before.rest.now r
@@ -111,7 +118,7 @@ module _ (n letter watch count many : ℕ) (wish : Wish) (start middle before le
       bits = bits;
       wished = wished.1;
       few = omega (arith, channels.many);
-      between = (channels_stand new k count start middle channels).0.1;
+      between = (channels_stand new channels).0.1;
       happened = subst₂ (λ m w. EventsOk m (width_of w) (happened l)) same_count same_wish read.ok;
     }
 
@@ -124,7 +131,7 @@ module _ (n letter watch count many : ℕ) (wish : Wish) (start middle before le
         (flat_map (event_bytes (width_of wish)) (happened l)) end.rest.now
 
     watch_is : l.watch ≡ watch
-    watch_is = read.same.watch ∙ still_watch new k count start middle channels
+    watch_is = read.same.watch ∙ still_watch new channels
 
     wish_is : l.wish ≡ wish
     wish_is = read.same.wish ∙ same_wish

@@ -31,7 +31,7 @@ module _ (n total : ℕ) (s : List ℕ) where
 
   module _ (sender : ℕ) (t : List ℕ) (fits : sender < 256) (is : s ≡ sender ∷ t) (sends : sender < n) where
     pub no_receiver_byte : {r : Refusal} (all : ℕ) → all ≡ total → length t < 1 → r ≡ row rule.Missing all Job → ChannelBroken n total s r
-    no_receiver_byte all same short at = after sender t (fits, sends) is (missing_as _ _ _ _ _ _ short (at ∙ ap (λ k. row rule.Missing k Job) same))
+    no_receiver_byte all same short at = after sender t (fits, sends) is (missing_as _ _ _ _ _ _ (short, at ∙ ap (λ k. row rule.Missing k Job) same))
 
     pub bad_receiver_at : (p receiver : ℕ) (u : List ℕ) (cs : List Channel) {e : JobFault} (all : ℕ) → all ≡ total →
         p ≡ all - length t → receiver < 256 → t ≡ receiver ∷ u → length cs < 8 → BadChannel n cs sender receiver e → ChannelBroken n total s (row rule.Field p Job)

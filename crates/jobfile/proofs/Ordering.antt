@@ -4,7 +4,6 @@ use Rattle.std.specs.List.{flat_map, AllByRecursion}
 use Rattle.std.proofs.lemmas.List.{length_push, get_or_push, get_or_append_left, flat_map_more}
 use Rattle.std.proofs.ByRecursion.{All-push}
 use Rattle.std.proofs.lemmas.Bool.{cases_lt}
-use Rattle.std.proofs.lemmas.Result.{err_from_is_err_and}
 use Rattle.std.specs.Result.{IsErrAnd}
 use Rattle.refusal.specs.declared.Layer.TheVariants.{Record}
 use Rattle.refusal.specs.declared.Refusal.{Refusal}
@@ -26,6 +25,7 @@ use Rattle.jobfile.specs.Forms.{row_bytes, RowsOk}
 use Rattle.jobfile.specs.Table.{RowBroken, RowsBroken, GatesBroken}
 use Rattle.jobfile.specs.Table.RowBroken.{missing, no_order as disorder}
 use Rattle.jobfile.specs.Fields.{Took, Stand, RowRead, RowsRead, GatesRead}
+use Rattle.jobfile.proofs.Taking.{err_exit}
 
 -- the row's bytes are not there
 pub row_short : (total n m : ℕ) (s : List ℕ) (r : Refusal) → m ≡ n → RowShort total m s r → RowBroken n total s r
@@ -53,9 +53,7 @@ module _ (i n : ℕ) (before left : Reader) (g : Gates) (list : List ℕ) (same 
     count = good.1;
     other = good.2;
   })
-  row_ends h s (Err e) q place bad is inside at =
-      let p = err_from_is_err_and q is in
-      rw (p.1, p.2) (row_unfit e place inside at bad.0)
+  row_ends h s (Err e) q place bad is inside at = err_exit q _ _ is (row_unfit e place inside at bad.0)
 
 -- the first i rows of a side were read, and stand in its table
 pub record SomeRows (s : Side) (i : ℕ) (before left : Reader) (g h : Gates) : Type 0 where

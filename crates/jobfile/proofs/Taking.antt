@@ -4,8 +4,7 @@ use Rattle.std.specs.Bool.{then_some}
 use Rattle.std.specs.Option.{ok_or}
 use Rattle.std.specs.Result.{IsErrAnd}
 use Rattle.std.proofs.lemmas.Result.{err_from_is_err_and}
-use Rattle.std.proofs.lemmas.List.{nil_from_length}
-use Rattle.std.proofs.lemmas.Nat.{le-div, pow_pos}
+use Rattle.std.proofs.lemmas.Nat.{le-div, pow_pos, be_bytes_2}
 use Rattle.std.proofs.lemmas.Bool.{cases_lt}
 use Rattle.refusal.specs.declared.Layer.TheVariants.{Job}
 use Rattle.refusal.specs.declared.Refusal.{Refusal}
@@ -15,14 +14,12 @@ use Rattle.refusal.specs.declared.Rule.TheVariants as rule
 use Rattle.refusal.specs.Table.{row}
 use Rattle.wire.specs.Parts.{Reads, FieldBroken, missing, range}
 use Rattle.wire.proofs.Words.{word2_number}
+use Rattle.wire.proofs.Reading.{one_byte, byte_first}
 use Rattle.jobfile.specs.declared.fault.JobFault.TheVariants as JobFault
-use Rattle.jobfile.specs.Fields.{job_row}
+use Rattle.jobfile.specs.Table.{Word}
+use Rattle.jobfile.specs.Fields.{job_row, Bytes, Took}
 
--- lists of one byte to four
-one_byte : (s : List ℕ) → length s ≡ 1 → s ≡ get_or s 0 0 ∷ []
-one_byte [] e = absurd (omega arith)
-one_byte (x ∷ s) e = ap (◌∷◌ x) (nil_from_length s (omega arith))
-
+-- lists of two bytes to four
 two_bytes : (s : List ℕ) → length s ≡ 2 → s ≡ get_or s 0 0 ∷ get_or s 1 0 ∷ []
 two_bytes [] e = absurd (omega arith)
 two_bytes (x ∷ s) e = ap (◌∷◌ x) (one_byte s (omega arith))
@@ -36,15 +33,13 @@ four_bytes [] e = absurd (omega arith)
 four_bytes (x ∷ s) e = ap (◌∷◌ x) (three_bytes s (omega arith))
 
 -- the numbers of taken bytes stand first
+pub first_byte : {part : List ℕ} {before left : Reader} → Bytes 1 part × Took part before left → before.rest.now ≡ get_or part 0 0 ∷ left.rest.now
+first_byte {part} {before} {left} read = byte_first before.rest.now part left.rest.now (read.0.long, read.1.is)
+
+first_word : {part : List ℕ} {before left : Reader} (v : ℕ) → Bytes 2 part × Took part before left → v ≡ get_or part 0 0 * 256 + get_or part 1 0 → before.rest.now ≡ word2 v ++ left.rest.now
+first_word {part} {left = left} v read at = read.1.is ∙ ap (λ z. z ++ left.rest.now) (sym (be_bytes_2 part v read.0.long read.0.small (omega arith)))
+
 module _ (s part t : List ℕ) (is : s ≡ part ++ t) where
-  pub first_byte : (v : ℕ) → length part ≡ 1 → v ≡ get_or part 0 0 → s ≡ v ∷ t
-  first_byte v long at = is ∙ ap (λ z. z ++ t) (one_byte part long) ∙ rw at
-
-  pub first_word : (v : ℕ) → length part ≡ 2 → get_or part 0 0 < 256 → get_or part 1 0 < 256 → v ≡ get_or part 0 0 * 256 + get_or part 1 0 → s ≡ word2 v ++ t
-  first_word v long high low at =
-      let w = word2_number (get_or part 0 0) (get_or part 1 0) v high low (omega arith) in
-      is ∙ ap (λ z. z ++ t) (two_bytes part long ∙ sym w)
-
   pub first_words : (v w : ℕ) → length part ≡ 4 → ((k : ℕ) → get_or part k 0 < 256) → v ≡ get_or part 0 0 * 256 + get_or part 1 0 → w ≡ get_or part 2 0 * 256 + get_or part 3 0 → s ≡ (word2 v ++ word2 w) ++ t
   first_words v w long small at next =
       let p = word2_number (get_or part 0 0) (get_or part 1 0) v (small 0) (small 1) (omega arith) in
@@ -53,8 +48,8 @@ module _ (s part t : List ℕ) (is : s ≡ part ++ t) where
 
 -- how a field is broken, with the place of the fault
 module _ {A : Type 0} (width : ℕ) (Fits : A → Type 0) (bytes : A → List ℕ) (Range : A → Type 0) (total : ℕ) (s : List ℕ) where
-  pub missing_as : {r : Refusal} → length s < width → r ≡ row rule.Missing total Job → FieldBroken width Fits bytes Range total s r
-  missing_as short at = rw at (missing short)
+  pub missing_as : {r : Refusal} → (length s < width) × (r ≡ row rule.Missing total Job) → FieldBroken width Fits bytes Range total s r
+  missing_as short = rw short.1 (missing short.0)
 
   pub range_at : (p : ℕ) (a : A) (t : List ℕ) → p ≡ total - length s → Fits a → s ≡ bytes a ++ t → (Range a → ⊥) → FieldBroken width Fits bytes Range total s (row rule.Field p Job)
   range_at p a t at fits is out = rw at (range a t fits is out)
@@ -66,9 +61,22 @@ pub ranged : (width : ℕ) (Fits : ℕ → Type 0) (bytes : ℕ → List ℕ) (R
 ranged width Fits bytes Range before left p v true at fits is total within out = ((fits, within refl), is, total)
 ranged width Fits bytes Range before left p v false at fits is total within out = range_at width Fits bytes Range before.total before.rest.now p v left.rest.now at fits is (out refl)
 
+-- such a field in two bytes
+pub ranged_word : (Range : ℕ → Type 0) {part : List ℕ} {before left : Reader} (p v : ℕ) (good : Bool) →
+    p ≡ before.total - length before.rest.now → Bytes 2 part × Took part before left → v ≡ get_or part 0 0 * 256 + get_or part 1 0 → (good ≡ true → Range v) → (good ≡ false → Range v → ⊥) →
+    Reads (λ k. Word k × Range k) word2 (FieldBroken 2 Word word2 Range) (λ k. k) job_row before (ok_or (then_some good v) (JobFault.Field p)) left
+ranged_word Range {part} {before} {left} p v good place read at within out =
+    ranged 2 Word word2 Range before left p v good place (omega (arith, at, read.0.small 0, read.0.small 1)) (first_word v read at) read.1.total within out
+
 -- a number without bits at k or above
 pub within_bits : (x k : ℕ) → x / 2 ^ k ≡ 0 → x < 2 ^ k
 within_bits x k none = ⊎_elim (λ below. below) (λ above. absurd (let some = le-div 1 x (2 ^ k) (pow_pos k) (omega arith) in omega arith)) (cases_lt x (2 ^ k))
+
+-- what the exit of a `?` returns
+pub err_exit : {V E : Type 0} (r : Result V E) {e : E} (P : V → Type 0) (Q : E → Type 0) → IsErrAnd r (λ d. d ≡ e) → Q e → MatchResult r P Q
+err_exit r P Q is known =
+    let p = err_from_is_err_and r is in
+    rw (p.1, p.2) known
 
 -- an error put in place of another
 pub mapped_err : {V E D : Type 0} (r : Result V E) (m : Result V D) (Post : E → D → Type 0) (P : V → Type 0) (Q : E → Type 0) (R : D → Type 0) →

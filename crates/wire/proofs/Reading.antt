@@ -26,12 +26,12 @@ abbrev pub Taken : List ℕ → ℕ → List ℕ → List ℕ → Type 0
 Taken s count x t = (length x ≡ count) × (s ≡ x ++ t)
 
 -- one byte
-one_byte : (s : List ℕ) → length s ≡ 1 → s ≡ get_or s 0 0 ∷ []
+pub one_byte : (s : List ℕ) → length s ≡ 1 → s ≡ get_or s 0 0 ∷ []
 one_byte [] e = absurd (omega arith)
 one_byte (x ∷ s) e = ap (◌∷◌ x) (nil_from_length s (omega arith))
 
 -- the taken byte stands first
-byte_first : (s size t : List ℕ) → Taken s 1 size t → s ≡ get_or size 0 0 ∷ t
+pub byte_first : (s size t : List ℕ) → Taken s 1 size t → s ≡ get_or size 0 0 ∷ t
 byte_first s size t taken = taken.1 ∙ ap (λ z. z ++ t) (one_byte size taken.0)
 
 -- a body begins with a process and a letter

@@ -1,18 +1,16 @@
 use Rattle.std.proofs.Common.{◌≡◌, ap, ◌∙◌, rules}
-use Rattle.std.proofs.lemmas.Result.{err_from_is_err_and}
 use Rattle.payload.specs.Marks.{width_of}
 use Rattle.cuts.specs.Jobs.{processes, happened}
 use Rattle.jobfile.specs.Table.{EventBroken}
 use Rattle.jobfile.specs.declared.fault.JobFault.TheVariants as JobFault
 use Rattle.jobfile.specs.Fields.{job_row}
-use Rattle.jobfile.proofs.Taking.{mapped_err}
+use Rattle.jobfile.proofs.Taking.{mapped_err, err_exit}
 use Rattle.jobfile.proofs.Happening.{record_breaks, event_pushed}
 use Rattle.jobfile.proofs.events.event.Goals as goal
 
 pub returns-in_err-found : goal.returns-in_err-found
 returns-in_err-found c =
-    let p = err_from_is_err_and c.from_residual.result c.from_residual.ensures.1 in
-    rw (p.1, p.2)
+    err_exit _ _ _ c.from_residual.ensures.1
     (record_breaks c.args.reader.now c.args.job.now _ _ (c.processes-n.ensures ∙ ap (λ t. t.n) c.trace.ensures) (c.width.ensures ∙ ap width_of c.wish.ensures) _
     c.in_err-found.ensures.reads)
 

@@ -1,20 +1,14 @@
 use Rattle.std.proofs.Common.{◌<◌, ◌^◌, arith}
-use Rattle.std.proofs.lemmas.Result.{err_from_is_err_and}
 use Rattle.std.proofs.lemmas.Bool.{eqb-true, eqb-false}
 use Rattle.std.proofs.Math.Nat.{div-eq_of_lt}
-use Rattle.wire.specs.Bytes.{word2}
-use Rattle.jobfile.specs.Table.{Word}
-use Rattle.jobfile.proofs.Taking.{within_bits, first_word, missing_as, ranged}
+use Rattle.jobfile.proofs.Taking.{within_bits, missing_as, ranged_word, err_exit}
 use Rattle.jobfile.proofs.fields.watch.Goals as goal
 
 pub returns-in_err-bytes : goal.returns-in_err-bytes
 returns-in_err-bytes c =
-    let p = err_from_is_err_and c.from_residual.result c.from_residual.ensures.1 in
-    let short = c.in_err-bytes.ensures in
-    rw (p.1, p.2) (missing_as _ _ _ _ _ _ short.0 short.1)
+    err_exit _ _ _ c.from_residual.ensures.1 (missing_as _ _ _ _ _ _ c.in_err-bytes.ensures)
 
 pub returns : goal.returns
 returns c =
-    let read = c.in_ok-bytes.ensures in
     rw (c.ok_or.ensures.value, c.then_some.ensures)
-    (ranged 2 Word word2 (λ v. v < 2 ^ c.args.frame.n) c.args.reader.now c.bytes.new.reader _ _ _ c.position.ensures (omega arith) (first_word _ _ _ read.1.is _ read.0.long (read.0.small 0) (read.0.small 1) c.from_be_bytes-watch.ensures) read.1.total (λ none. omega (arith, within_bits c.from.result c.args.frame.n (eqb-true _ _ none))) (λ some below. eqb-false _ _ some (div-eq_of_lt (omega (arith, below)))))
+    (ranged_word (λ v. v < 2 ^ c.args.frame.n) _ _ _ c.position.ensures c.in_ok-bytes.ensures c.from_be_bytes-watch.ensures (λ none. omega (arith, within_bits c.from.result c.args.frame.n (eqb-true _ _ none))) (λ some below. eqb-false _ _ some (div-eq_of_lt (omega (arith, below)))))

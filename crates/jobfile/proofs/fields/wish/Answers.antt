@@ -1,22 +1,19 @@
 use Rattle.std.proofs.Common.{sym, ap, arith}
-use Rattle.std.proofs.lemmas.Result.{err_from_is_err_and}
 use Rattle.payload.specs.declared.kinds.ScanWish.{ScanWish}
 use Rattle.jobfile.specs.Table.{kind_width}
 use Rattle.jobfile.specs.Fields.{letter_of_kind}
-use Rattle.jobfile.proofs.Taking.{first_words, missing_as}
+use Rattle.jobfile.proofs.Taking.{first_words, missing_as, err_exit}
 use Rattle.jobfile.proofs.fields.wish.Goals as goal
 
 pub returns-in_err-wish_of-in-Code : goal.returns-in_err-wish_of-in-Code
 returns-in_err-wish_of-in-Code c =
-    let p = err_from_is_err_and c.from_residual.result c.from_residual.ensures.1 in
     let short = c.in_err-wish_of-in-Code.ensures in
-    rw (p.1, p.2) (missing_as _ _ _ _ _ _ (omega (arith, short.0, ap (λ k. kind_width (letter_of_kind k)) c.in-Code.is)) short.1)
+    err_exit _ _ _ c.from_residual.ensures.1 (missing_as _ _ _ _ _ _ (omega (arith, short.0, ap (λ k. kind_width (letter_of_kind k)) c.in-Code.is), short.1))
 
 pub returns-in_err-wish_of-in-Scan : goal.returns-in_err-wish_of-in-Scan
 returns-in_err-wish_of-in-Scan c =
-    let p = err_from_is_err_and c.from_residual-in_err-wish_of-in-Scan.result c.from_residual-in_err-wish_of-in-Scan.ensures.1 in
     let short = c.in_err-wish_of-in-Scan.ensures in
-    rw (p.1, p.2) (missing_as _ _ _ _ _ _ (omega (arith, short.0, ap (λ k. kind_width (letter_of_kind k)) c.in-Scan.is)) short.1)
+    err_exit _ _ _ c.from_residual-in_err-wish_of-in-Scan.ensures.1 (missing_as _ _ _ _ _ _ (omega (arith, short.0, ap (λ k. kind_width (letter_of_kind k)) c.in-Scan.is), short.1))
 
 pub returns-in_ok-wish_of-in-Scan : goal.returns-in_ok-wish_of-in-Scan
 returns-in_ok-wish_of-in-Scan c =

@@ -1,12 +1,11 @@
 use Rattle.std.proofs.Common.{rules}
-use Rattle.std.proofs.lemmas.Result.{err_from_is_err_and}
+use Rattle.jobfile.proofs.Taking.{err_exit}
 use Rattle.jobfile.proofs.Ordering.{row_short, row_ends}
 use Rattle.jobfile.proofs.rows.row.Goals as goal
 
 pub returns-in_err-order : goal.returns-in_err-order
 returns-in_err-order c =
-    let p = err_from_is_err_and c.from_residual.result c.from_residual.ensures.1 in
-    rw (p.1, p.2) (row_short _ _ _ _ _ c.count.ensures c.in_err-order.ensures.reads)
+    err_exit _ _ _ c.from_residual.ensures.1 (row_short _ _ _ _ _ c.count.ensures c.in_err-order.ensures.reads)
 
 pub returns : goal.returns
 returns c =
