@@ -5,7 +5,6 @@ use Rattle.std.proofs.lemmas.Bool.{ltb-true, and_parts}
 use Rattle.trace.specs.declared.event.Action.TheVariants.{Send, Receive}
 use Rattle.trace.specs.Events.{by, does, Sending, Receiving}
 use Rattle.trace.specs.Rules.{Valid}
-use Rattle.trace.proofs.Judging.{same_message, same_receiver, same_received, send_receive, send_local, receive_local}
 use Rattle.jobfile.specs.Forms.{encoded, EventOk}
 use Rattle.samples.specs.Sample.{happened, sample, Sample}
 
@@ -23,20 +22,20 @@ the_send s =
     let to = s.to in
     let m = s.message in
     below_four (λ k. does happened k ≡ Send to m → (k ≡ 0) × (to ≡ 1) × (m ≡ 7))
-    (λ e. (refl, sym (same_receiver 1 7 to m e), sym (same_message 1 7 to m e)))
-    (λ e. absurd (send_local to m (sym e)))
-    (λ e. absurd (send_receive to m 7 (sym e)))
-    (λ e. absurd (send_local to m (sym e)))
+    (λ e. (refl, cc, cc))
+    (λ e. cc)
+    (λ e. cc)
+    (λ e. cc)
     s.at s.within s.is
 
 the_receive : (r : Receiving happened) → (r.at ≡ 2) × (r.message ≡ 7)
 the_receive r =
     let m = r.message in
     below_four (λ k. does happened k ≡ Receive m → (k ≡ 2) × (m ≡ 7))
-    (λ e. absurd (send_receive 1 7 m e))
-    (λ e. absurd (receive_local m (sym e)))
-    (λ e. (refl, sym (same_received 7 m e)))
-    (λ e. absurd (receive_local m (sym e)))
+    (λ e. cc)
+    (λ e. cc)
+    (λ e. (refl, cc))
+    (λ e. cc)
     r.at r.within r.is
 
 valid : Valid 2 happened

@@ -1,5 +1,5 @@
 -- The event that sends a message. Assumes nothing.
-use Rattle.std.proofs.Common.{◌≡◌, ℕ, ◌<◌, ◌≤◌, true, false, eqb, List, length, sym, refl, ap, ◌∙◌, ⊎_elim, arith}
+use Rattle.std.proofs.Common.{◌≡◌, ℕ, ◌<◌, ◌≤◌, true, false, eqb, List, [], length, sym, refl, ap, ◌∙◌, ⊎_elim, arith}
 use Rattle.std.proofs.lemmas.Bool.{cases_lt, both_ways, eqb-true, eq-eqb, and_parts, and_from}
 use Rattle.lattice.specs.First.{Least}
 use Rattle.lattice.proofs.First.{first_least, first_is}
@@ -126,4 +126,17 @@ valid_from n es k =
       sent_once = k.sent_once;
       received_once = k.received_once;
       sent_first = sent_to es k.answers;
+    }
+
+-- no events
+pub valid_none : (n : ℕ) → Valid n []
+valid_none n =
+    record {
+      few = omega arith;
+      process = λ e h. absurd (omega arith);
+      receiver = λ s. absurd (omega (arith, s.within));
+      other = λ s _. omega (arith, s.within);
+      sent_once = λ s t _. absurd (omega (arith, s.within));
+      received_once = λ r q _. absurd (omega (arith, r.within));
+      sent_first = λ r. absurd (omega (arith, r.within));
     }
