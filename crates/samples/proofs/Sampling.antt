@@ -1,6 +1,6 @@
 -- The sample job is well formed, and its file is the one that is listed. Assumes nothing.
-use Rattle.std.proofs.Common.{◌≡◌, ℕ, zero, suc, ◌<◌, Bool, true, ◌&&◌, ltb, List, [], ◌∷◌, get_or, sym, refl, ap, ◌∙◌, arith, lit<, lit≤}
-use Rattle.std.specs.List.{AllByRecursion}
+use Rattle.std.proofs.Common.{◌≡◌, ℕ, zero, suc, ◌<◌, true, ltb, List, [], ◌∷◌, get_or, sym, refl, ap, ◌∙◌, arith, lit<, lit≤}
+use Rattle.std.specs.List.{AllByRecursion, list_all}
 use Rattle.std.proofs.lemmas.Bool.{ltb-true, and_parts}
 use Rattle.trace.specs.declared.event.Action.TheVariants.{Send, Receive}
 use Rattle.trace.specs.Events.{by, does, Sending, Receiving}
@@ -68,14 +68,10 @@ own = (
 )
 
 -- a list of bytes, by a test of each
-abbrev small : List ℕ → Bool
-small [] = true
-small (x ∷ s) = ltb x 256 && small s
-
-small_at : (s : List ℕ) → small s ≡ true → (k : ℕ) → get_or s k 0 < 256
+small_at : (s : List ℕ) → list_all (λ x. ltb x 256) s ≡ true → (k : ℕ) → get_or s k 0 < 256
 small_at [] e k = lit< tt
-small_at (x ∷ s) e zero = ltb-true x 256 (and_parts (ltb x 256) (small s) e).0
-small_at (x ∷ s) e (suc k) = small_at s (and_parts (ltb x 256) (small s) e).1 k
+small_at (x ∷ s) e zero = ltb-true x 256 (and_parts (ltb x 256) _ e).0
+small_at (x ∷ s) e (suc k) = small_at s (and_parts (ltb x 256) _ e).1 k
 
 pub sample_stands : Sample
 sample_stands = record {

@@ -1,7 +1,7 @@
 -- The events of a trace with the tables that go with them. Assumes nothing.
 use Rattle.std.proofs.Common.{◌≡◌, ℕ, zero, suc, ◌-◌, ◌<◌, ◌≤◌, cond, eqb, List, [], ◌∷◌, ◌++◌, map, length, get_or, set, sym, refl, ap, ◌∙◌, subst, ⊎_elim, arith}
 use Rattle.std.specs.Global.{Vec}
-use Rattle.std.proofs.lemmas.List.{length-map, map_push, map-set, get_or-map, set-get_or, get_or-set_same, get_or-set_other}
+use Rattle.std.proofs.lemmas.List.{length-map, map_push, map-set, get_or-map, get_or-set_same, get_or-set_other}
 use Rattle.std.proofs.lemmas.Bool.{cases_lt, cases_eq, eq-eqb, ne_eqb, cond-true, cond-false}
 use Rattle.trace.specs.declared.clock.Clock.{Clock}
 use Rattle.trace.specs.declared.event.Event.{Event}
@@ -98,17 +98,11 @@ clock_read steps e k table h is =
     ap (λ x. x.entries) (is none) ∙ sym (get_or-map (λ x. x.clock.entries) steps e none zeros h) ∙ ap (λ t. get_or t e zeros) table
 
 -- one field of the table of messages, where an entry is written
-module _ (f : Ends → ℕ) (messages : List Ends) (m : ℕ) (x : Ends) where
-  pub noted : m < length messages → (k : ℕ) → get_or (map f (set messages m x)) k 0 ≡ cond (eqb m k) (f x) (get_or (map f messages) k 0)
-  noted h k =
-      ap (λ xs. get_or xs k 0) (map-set f messages m x)
-      ∙ ⊎_elim
-      (λ e. subst (λ (j : ℕ). get_or (set (map f messages) m (f x)) j 0 ≡ cond (eqb m j) (f x) (get_or (map f messages) j 0)) e
-      (get_or-set_same (map f messages) m (f x) 0 (omega (arith, length-map messages f)) ∙ sym (cond-true _ _ _ (eq-eqb m m refl))))
-      (λ ne. get_or-set_other (map f messages) m k (f x) 0 (λ e. ne (sym e)) ∙ sym (cond-false _ _ _ (ne_eqb m k ne)))
-      (cases_eq m k)
-
-  pub unnoted : (d : Ends) → m < length messages → f x ≡ f (get_or messages m d) → (k : ℕ) → get_or (map f (set messages m x)) k 0 ≡ get_or (map f messages) k 0
-  unnoted d h same k =
-      ap (λ xs. get_or xs k 0)
-      (map-set f messages m x ∙ ap (set (map f messages) m) (same ∙ sym (get_or-map f messages m d 0 h)) ∙ set-get_or (map f messages) m 0)
+pub noted : (f : Ends → ℕ) (messages : List Ends) (m : ℕ) (x : Ends) → m < length messages → (k : ℕ) → get_or (map f (set messages m x)) k 0 ≡ cond (eqb m k) (f x) (get_or (map f messages) k 0)
+noted f messages m x h k =
+    ap (λ xs. get_or xs k 0) (map-set f messages m x)
+    ∙ ⊎_elim
+    (λ e. subst (λ (j : ℕ). get_or (set (map f messages) m (f x)) j 0 ≡ cond (eqb m j) (f x) (get_or (map f messages) j 0)) e
+    (get_or-set_same (map f messages) m (f x) 0 (omega (arith, length-map messages f)) ∙ sym (cond-true _ _ _ (eq-eqb m m refl))))
+    (λ ne. get_or-set_other (map f messages) m k (f x) 0 (λ e. ne (sym e)) ∙ sym (cond-false _ _ _ (ne_eqb m k ne)))
+    (cases_eq m k)
