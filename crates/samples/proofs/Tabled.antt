@@ -5,8 +5,8 @@ use Rattle.gates.specs.Orders.{OrderOf}
 use Rattle.payload.specs.declared.wish.Wish.TheVariants.{Code}
 use Rattle.trace.specs.declared.event.Event.{Event}
 use Rattle.trace.specs.declared.event.Action.TheVariants.{Receive}
-use Rattle.trace.specs.Rules.{Valid}
 use Rattle.trace.specs.Growth.BreaksMessages.{unsent}
+use Rattle.trace.proofs.Sources.{valid_none}
 use Rattle.wire.specs.Parts.{broken, kept, here, after, next, FieldBroken}
 use Rattle.wire.specs.Frames.{largest, IsLetter, headed, Framed, Behind}
 use Rattle.wire.specs.Records.{Raw, local, send, receive, record_bytes, no_event}
@@ -17,18 +17,6 @@ use Rattle.samples.specs.Rows.{Rows}
 -- a good frame, with one process or van
 framed : {letter : ℕ} {file body : List ℕ} → IsLetter letter → length file ≤ largest → file ≡ headed (length file) letter 1 body → Framed file letter 1 body
 framed lettered short is = record { short = short; is = is; lettered = lettered; some = lit≤ tt; few = lit≤ tt }
-
--- no events
-none_valid : Valid 1 []
-none_valid = record {
-  few = lit≤ tt;
-  process = λ e h. absurd (omega arith);
-  receiver = λ s. absurd (omega (arith, s.within));
-  other = λ s e. omega (arith, s.within);
-  sent_once = λ s t e. absurd (omega (arith, s.within));
-  received_once = λ r q e. absurd (omega (arith, r.within));
-  sent_first = λ r. absurd (omega (arith, r.within));
-}
 
 -- no bytes are no record
 not_empty : (raw : Raw) → [] ≡ record_bytes raw → ⊥
@@ -45,7 +33,7 @@ one_event {total} {t} x =
     (after 0 _ (lit< tt, lit≤ tt) refl
     (after [] _ (refl, tt) refl
     (after 1 t (lit< tt, lit≤ tt) refl
-    (next [] t (lit< tt) (none_valid, tt) refl x))))))
+    (next [] t (lit< tt) (valid_none 1, tt) refl x))))))
 
 -- the receive of message 7
 abbrev received : Event

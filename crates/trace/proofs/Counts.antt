@@ -11,14 +11,11 @@ count_here es i k e = ap (λ x. count es i k + x) (cond-true (eqb (by es k) i) 1
 pub count_other : (es : List Event) (i k : ℕ) → (by es k ≡ i → ⊥) → count es i (suc k) ≡ count es i k
 count_other es i k ne = let e = ap (λ x. count es i k + x) (cond-false (eqb (by es k) i) 1 0 (ne_eqb _ _ ne)) in omega arith
 
-count_step : (es : List Event) (i k : ℕ) → count es i k ≤ count es i (suc k)
-count_step es i k = omega arith
-
 pub count_mono : (es : List Event) (i k m : ℕ) → k ≤ m → count es i k ≤ count es i m
 count_mono es i k zero h = let e : k ≡ 0 = omega arith in rw e (omega arith)
 count_mono es i k (suc m) h =
     ⊎_elim
-    (λ lt. let r = count_mono es i k m (omega arith) in omega (arith, count_step es i m))
+    (λ lt. let r = count_mono es i k m (omega arith) in omega arith)
     (λ ge. let e : k ≡ suc m = omega arith in let r = ap (count es i) e in omega arith)
     (cases_lt k (suc m))
 

@@ -13,7 +13,7 @@ use Rattle.trace.specs.Growth.NoReceiver.{absent, itself}
 use Rattle.trace.specs.Growth.Refused.{full, no_process, no_receiver, no_message}
 use Rattle.trace.proofs.Appended.{more, longer, old_by, last_by, old_does, last_does, where_is, old_send, old_receive, kept_send, kept_receive}
 use Rattle.trace.proofs.Sources.{sender, source_le}
-use Rattle.trace.proofs.Judging.{same_receiver, bad_receiver}
+use Rattle.trace.proofs.Judging.{bad_receiver}
 
 -- a message was sent or not
 pub sent_or_not : (es : List Event) (m : ℕ) → (source es m < length es) ⊎ ((s : Sending es) → s.message ≡ m → ⊥)
@@ -59,6 +59,15 @@ module _ (n : ℕ) (es : List Event) (ev : Event) where
   last_is : (e : ℕ) (a : Action) → e ≡ length es → does (more es ev) e ≡ a → ev.action ≡ a
   last_is e a at is = sym (last_does es ev e at) ∙ is
 
+  -- two places are one if they are one among the old, and the last is not with an old one
+  once : (x y : ℕ) → x < length (more es ev) → y < length (more es ev) → (x < length es → y < length es → x ≡ y) → (x ≡ length es → y < length es → ⊥) →
+      (x < length es → y ≡ length es → ⊥) → x ≡ y
+  once x y hx hy old first second =
+      ⊎_elim
+      (λ a. ⊎_elim (λ b. old a b) (λ b. absurd (second a b)) (where_is es ev y hy))
+      (λ a. ⊎_elim (λ b. absurd (first a b)) (λ b. a ∙ sym b) (where_is es ev y hy))
+      (where_is es ev x hx)
+
   pub grown : Valid n es → Fits n es ev → Valid n (more es ev)
   grown v fits =
       let new_send : (s : Sending (more es ev)) → s.at ≡ length es → (t : Sending es) → t.message ≡ s.message → ⊥ =
@@ -85,25 +94,15 @@ module _ (n : ℕ) (es : List Event) (ev : Event) where
             (λ at. no_bad s at (itself (e ∙ last_by es ev s.at at)))
             (where_is es ev s.at s.within);
         sent_once = λ s t e.
-            ⊎_elim
-            (λ a.
-            ⊎_elim
-            (λ b. v.sent_once (old_send es ev s a) (old_send es ev t b) e)
-            (λ b. absurd (new_send t b (old_send es ev s a) e))
-            (where_is es ev t.at t.within))
-            (λ a.
-            ⊎_elim (λ b. absurd (new_send s a (old_send es ev t b) (sym e))) (λ b. a ∙ sym b) (where_is es ev t.at t.within))
-            (where_is es ev s.at s.within);
+            once s.at t.at s.within t.within
+            (λ a b. v.sent_once (old_send es ev s a) (old_send es ev t b) e)
+            (λ a b. new_send s a (old_send es ev t b) (sym e))
+            (λ a b. new_send t b (old_send es ev s a) e);
         received_once = λ r q e.
-            ⊎_elim
-            (λ a.
-            ⊎_elim
-            (λ b. v.received_once (old_receive es ev r a) (old_receive es ev q b) e)
-            (λ b. absurd (new_receive q b (old_receive es ev r a) e))
-            (where_is es ev q.at q.within))
-            (λ a.
-            ⊎_elim (λ b. absurd (new_receive r a (old_receive es ev q b) (sym e))) (λ b. a ∙ sym b) (where_is es ev q.at q.within))
-            (where_is es ev r.at r.within);
+            once r.at q.at r.within q.within
+            (λ a b. v.received_once (old_receive es ev r a) (old_receive es ev q b) e)
+            (λ a b. new_receive r a (old_receive es ev q b) (sym e))
+            (λ a b. new_receive q b (old_receive es ev r a) e);
         sent_first = λ r.
             ⊎_elim
             (λ lt.
@@ -133,10 +132,10 @@ module _ (n : ℕ) (es : List Event) (ev : Event) where
   breaks_more v _ is (misdirected {m} s same ne) =
       let t = v.sent_first (last_receive m is) in
       let at = v.sent_once (kept_send es ev s) t.sending (same ∙ sym t.same) in
-      ne
-      (same_receiver s.to s.message t.sending.to t.sending.message
-      (sym s.is ∙ sym (old_does es ev s.at s.within) ∙ ap (does (more es ev)) at ∙ t.sending.is)
-      ∙ t.named ∙ last_by es ev (length es) refl)
+      let sent : Send s.to s.message ≡ Send t.sending.to t.sending.message =
+      sym s.is ∙ sym (old_does es ev s.at s.within) ∙ ap (does (more es ev)) at ∙ t.sending.is in
+      let to : s.to ≡ t.sending.to = cc in
+      ne (to ∙ t.named ∙ last_by es ev (length es) refl)
   breaks_more v _ is (received_again {m} r same) = omega (arith, v.received_once (kept_receive es ev r) (last_receive m is) same, r.within)
 
   pub refused_not : (e : EventFault) → Refused n es ev e → Valid n (more es ev) → ⊥

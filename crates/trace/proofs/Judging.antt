@@ -1,35 +1,15 @@
 -- Which rule an event breaks, or that it breaks none. Assumes nothing.
-use Rattle.std.proofs.Common.{◌≡◌, ℕ, ◌<◌, ◌≤◌, true, false, ◌&&◌, eqb, ◌⊎◌, List, length, is_some, Some, None, Option, sym, refl, ap, ◌∙◌, subst, inl, inr, ⊎_elim, arith}
+use Rattle.std.proofs.Common.{◌≡◌, ℕ, ◌<◌, ◌≤◌, true, false, ◌&&◌, eqb, ◌⊎◌, List, length, is_some, Some, None, Option, MatchOption, sym, refl, ap, ◌∙◌, subst, inl, inr, ⊎_elim, arith}
 use Rattle.std.proofs.lemmas.Bool.{lt-ltb, both_ways}
 use Rattle.trace.specs.declared.event.Event.{Event}
 use Rattle.trace.specs.declared.event.Action.{Action}
-use Rattle.trace.specs.declared.event.Action.TheVariants.{Local, Send, Receive}
+use Rattle.trace.specs.declared.event.Action.TheVariants.{Send, Receive}
 use Rattle.trace.specs.declared.event.EventFault.TheVariants.{Receiver, Message}
-use Rattle.trace.specs.declared.trace.Trace.{Trace}
 use Rattle.trace.specs.Events.{longest, does, source, Sending, Receiving}
-use Rattle.trace.specs.Growth.{events, BreaksMessages, NoReceiver, Refused, Fits, sent_by, named_by, names_at, SenderAt, ReceiverAt}
+use Rattle.trace.specs.Growth.{BreaksMessages, NoReceiver, Refused, Fits, sent_by, named_by, names_at}
 use Rattle.trace.specs.Growth.BreaksMessages.{sent_again, unsent, misdirected, received_again}
 use Rattle.trace.specs.Growth.NoReceiver.{absent, itself}
 use Rattle.trace.specs.Growth.Refused.{no_receiver, no_message}
-
--- two actions of one kind, and of different kinds
-pub same_message : (to m k l : ℕ) → Send to m ≡ Send k l → m ≡ l
-same_message to m k l e = cc
-
-pub same_receiver : (to m k l : ℕ) → Send to m ≡ Send k l → to ≡ k
-same_receiver to m k l e = cc
-
-pub same_received : (m k : ℕ) → Receive m ≡ Receive k → m ≡ k
-same_received m k e = cc
-
-pub send_receive : (to m k : ℕ) → Send to m ≡ Receive k → ⊥
-send_receive to m k e = cc
-
-pub send_local : (to m : ℕ) → Send to m ≡ Local → ⊥
-send_local to m e = cc
-
-pub receive_local : (m : ℕ) → Receive m ≡ Local → ⊥
-receive_local m e = cc
 
 -- what breaks a rule, by the kind of the action
 pub record BadReceiver (n p : ℕ) (a : Action) : Type 0 where
@@ -95,22 +75,14 @@ module _ (n : ℕ) (es : List Event) (ev : Event) (room : length es < longest) (
     ap (sent_by es) (sym is),
   )
 
--- what is found of a message
-pub some_sender : (t : Trace) (m : ℕ) (o : Option ℕ) → SenderAt t m o → is_some o ≡ true → (s : Sending (events t)) × (s.message ≡ m)
-some_sender t m None found e = absurd (both_ways false refl e)
-some_sender t m (Some x) found e = (found.1.0, found.1.1)
+-- what is found, or that there is none
+pub of_some : (N : Type 0) (S : ℕ → Type 0) (o : Option ℕ) → MatchOption o N S → is_some o ≡ true → (e : ℕ) × S e
+of_some N S None found e = absurd (both_ways false refl e)
+of_some N S (Some x) found e = (x, found)
 
-pub no_sender : (t : Trace) (m : ℕ) (o : Option ℕ) → SenderAt t m o → is_some o ≡ false → (s : Sending (events t)) → s.message ≡ m → ⊥
-no_sender t m None found e = found
-no_sender t m (Some x) found e = absurd (both_ways true e refl)
-
-pub some_receiver : (t : Trace) (m : ℕ) (o : Option ℕ) → ReceiverAt t m o → is_some o ≡ true → (r : Receiving (events t)) × (r.message ≡ m)
-some_receiver t m None found e = absurd (both_ways false refl e)
-some_receiver t m (Some x) found e = (found.0, found.1)
-
-pub no_receipt : (t : Trace) (m : ℕ) (o : Option ℕ) → ReceiverAt t m o → is_some o ≡ false → (r : Receiving (events t)) → r.message ≡ m → ⊥
-no_receipt t m None found e = found
-no_receipt t m (Some x) found e = absurd (both_ways true e refl)
+pub of_none : (N : Type 0) (S : ℕ → Type 0) (o : Option ℕ) → MatchOption o N S → is_some o ≡ false → N
+of_none N S None found e = found
+of_none N S (Some x) found e = absurd (both_ways true e refl)
 
 pub names_send : (es : List Event) (s : Sending es) (e p : ℕ) → s.at ≡ e → names_at es e p ≡ eqb s.to p
 names_send es s e p at =

@@ -1,5 +1,5 @@
 -- The event that sends a message. Assumes nothing.
-use Rattle.std.proofs.Common.{◌≡◌, ℕ, ◌<◌, ◌≤◌, true, false, eqb, List, length, sym, refl, ap, ◌∙◌, ⊎_elim, arith}
+use Rattle.std.proofs.Common.{◌≡◌, ℕ, ◌<◌, ◌≤◌, true, false, eqb, List, [], length, sym, refl, ap, ◌∙◌, ⊎_elim, arith, rules}
 use Rattle.std.proofs.lemmas.Bool.{cases_lt, both_ways, eqb-true, eq-eqb, and_parts, and_from}
 use Rattle.lattice.specs.First.{Least}
 use Rattle.lattice.proofs.First.{first_least, first_is}
@@ -105,25 +105,20 @@ sent_to es answers r =
     }
 
 pub keeps : (n : ℕ) (es : List Event) → Valid n es → KeepsRules n es
-keeps n es v =
-    record {
-      short = v.few;
-      process = v.process;
-      receiver = v.receiver;
-      other = v.other;
-      sent_once = v.sent_once;
-      received_once = v.received_once;
-      answers = answers_from n es v;
-    }
+keeps n es v = let answers = answers_from n es v in search rules
 
 pub valid_from : (n : ℕ) (es : List Event) → KeepsRules n es → Valid n es
-valid_from n es k =
+valid_from n es k = let sent_first = sent_to es k.answers in search rules
+
+-- no events
+pub valid_none : (n : ℕ) → Valid n []
+valid_none n =
     record {
-      few = k.short;
-      process = k.process;
-      receiver = k.receiver;
-      other = k.other;
-      sent_once = k.sent_once;
-      received_once = k.received_once;
-      sent_first = sent_to es k.answers;
+      few = omega arith;
+      process = λ e h. absurd (omega arith);
+      receiver = λ s. absurd (omega (arith, s.within));
+      other = λ s _. omega (arith, s.within);
+      sent_once = λ s t _. absurd (omega (arith, s.within));
+      received_once = λ r q _. absurd (omega (arith, r.within));
+      sent_first = λ r. absurd (omega (arith, r.within));
     }

@@ -1,7 +1,7 @@
 -- The events of a trace with the tables that go with them. Assumes nothing.
 use Rattle.std.proofs.Common.{◌≡◌, ℕ, zero, suc, ◌-◌, ◌<◌, ◌≤◌, cond, eqb, List, [], ◌∷◌, ◌++◌, map, length, get_or, set, sym, refl, ap, ◌∙◌, subst, ⊎_elim, arith}
 use Rattle.std.specs.Global.{Vec}
-use Rattle.std.proofs.lemmas.List.{length-map, map_push, map-set, get_or-map, set-get_or, get_or-set_same, get_or-set_other}
+use Rattle.std.proofs.lemmas.List.{length-map, map_push, map-set, get_or-map, get_or-set_same, get_or-set_other}
 use Rattle.std.proofs.lemmas.Bool.{cases_lt, cases_eq, eq-eqb, ne_eqb, cond-true, cond-false}
 use Rattle.trace.specs.declared.clock.Clock.{Clock}
 use Rattle.trace.specs.declared.event.Event.{Event}
@@ -13,6 +13,7 @@ use Rattle.trace.specs.Clocks.{zeros, latest, mattern, clock}
 use Rattle.trace.specs.Tables.{recorded, rows, listed, Indexed, Tabled, KeepsRules}
 use Rattle.trace.proofs.Counts.{count_le, count_mono, count_here, number_is, number_total, numbered}
 use Rattle.trace.proofs.Clocks.{find_last}
+use Rattle.trace.proofs.Sources.{keeps, valid_none}
 
 -- the items of the vector at a place
 pub listed_at : (places : List (Vec ℕ)) (i : ℕ) (xs : List ℕ) → i < length places → ((v : Vec ℕ) → (get_or places i v).items ≡ xs) → get_or (listed places) i [] ≡ xs
@@ -22,17 +23,7 @@ listed_at (v ∷ vs) (suc i) xs h is = listed_at vs i xs (omega arith) is
 
 -- no events
 pub keeps_none : (n : ℕ) (steps : List Step) → steps ≡ [] → KeepsRules n (recorded steps)
-keeps_none n steps none =
-    let short : length (recorded steps) ≡ 0 = ap (λ x. length (recorded x)) none in
-    record {
-      short = omega arith;
-      process = λ e h. absurd (omega arith);
-      receiver = λ s. absurd (omega (arith, s.within));
-      other = λ s _. omega (arith, s.within);
-      sent_once = λ s t _. absurd (omega (arith, s.within));
-      received_once = λ r q _. absurd (omega (arith, r.within));
-      answers = λ r. absurd (omega (arith, r.within));
-    }
+keeps_none n steps none = subst (λ x. KeepsRules n (recorded x)) (sym none) (keeps n [] (valid_none n))
 
 pub tabled_none : (steps : List Step) (places : List (Vec ℕ)) (messages : List Ends) → steps ≡ [] → length places ≡ most →
     ((i : ℕ) (v : Vec ℕ) → i < most → (get_or places i v).items ≡ []) → Tabled (recorded steps) (listed places) messages
@@ -107,15 +98,11 @@ clock_read steps e k table h is =
     ap (λ x. x.entries) (is none) ∙ sym (get_or-map (λ x. x.clock.entries) steps e none zeros h) ∙ ap (λ t. get_or t e zeros) table
 
 -- one field of the table of messages, where an entry is written
-module _ (f : Ends → ℕ) (messages : List Ends) (m : ℕ) (x : Ends) where
-  pub noted : m < length messages → (k : ℕ) → get_or (map f (set messages m x)) k 0 ≡ cond (eqb m k) (f x) (get_or (map f messages) k 0)
-  noted h k =
-      ap (λ xs. get_or xs k 0) (map-set f messages m x)
-      ∙ ⊎_elim
-      (λ e. subst (λ (j : ℕ). get_or (set (map f messages) m (f x)) j 0 ≡ cond (eqb m j) (f x) (get_or (map f messages) j 0)) e
-      (get_or-set_same (map f messages) m (f x) 0 (omega (arith, length-map messages f)) ∙ sym (cond-true _ _ _ (eq-eqb m m refl))))
-      (λ ne. get_or-set_other (map f messages) m k (f x) 0 (λ e. ne (sym e)) ∙ sym (cond-false _ _ _ (ne_eqb m k ne)))
-      (cases_eq m k)
-
-  pub unnoted : f x ≡ get_or (map f messages) m 0 → (k : ℕ) → get_or (map f (set messages m x)) k 0 ≡ get_or (map f messages) k 0
-  unnoted same k = ap (λ xs. get_or xs k 0) (map-set f messages m x ∙ ap (set (map f messages) m) same ∙ set-get_or (map f messages) m 0)
+pub noted : (f : Ends → ℕ) (messages : List Ends) (m : ℕ) (x : Ends) → m < length messages → (k : ℕ) → get_or (map f (set messages m x)) k 0 ≡ cond (eqb m k) (f x) (get_or (map f messages) k 0)
+noted f messages m x h k =
+    ap (λ xs. get_or xs k 0) (map-set f messages m x)
+    ∙ ⊎_elim
+    (λ e. subst (λ (j : ℕ). get_or (set (map f messages) m (f x)) j 0 ≡ cond (eqb m j) (f x) (get_or (map f messages) j 0)) e
+    (get_or-set_same (map f messages) m (f x) 0 (omega (arith, length-map messages f)) ∙ sym (cond-true _ _ _ (eq-eqb m m refl))))
+    (λ ne. get_or-set_other (map f messages) m k (f x) 0 (λ e. ne (sym e)) ∙ sym (cond-false _ _ _ (ne_eqb m k ne)))
+    (cases_eq m k)

@@ -77,10 +77,13 @@ missed t test f m x finds h is none e lt passes =
     let at : e ≡ f x = sym (finds e m lt passes) ∙ get_or-map f t.messages.items m x 0 (omega (arith, t.sized.1, t.messages.ok.0)) ∙ sym (ap f is) in
     both_ways _ (none (omega arith)) (ap (λ (k : ℕ). test m (does (events t) k)) (sym at) ∙ passes)
 
-pub sender_found : (t : Trace) (m : ℕ) (x : Ends) (o : Option ℕ) → m < 65536 → x ≡ get_or t.messages.items m x →
-    MatchOption o (x.sent < length (events t) → sends m (does (events t) x.sent) ≡ false)
-    (λ e. (e ≡ x.sent) × (x.sent < length (events t)) × (sends m (does (events t) x.sent) ≡ true)) →
-    SenderAt t m o
+-- what is found at a place, if the event there is as wanted
+abbrev pub Found : Trace → (Action → Bool) → ℕ → Option ℕ → Type 0
+Found t wanted at o =
+    MatchOption o (at < length (events t) → wanted (does (events t) at) ≡ false)
+    (λ e. (e ≡ at) × (at < length (events t)) × (wanted (does (events t) at) ≡ true))
+
+pub sender_found : (t : Trace) (m : ℕ) (x : Ends) (o : Option ℕ) → m < 65536 → x ≡ get_or t.messages.items m x → Found t (sends m) x.sent o → SenderAt t m o
 sender_found t m x None h is found = λ s same.
     missed t sends (λ y. y.sent) m x t.tables.sent h is found s.at s.within (sends_at m s.to s.message _ s.is same)
 sender_found t m x (Some e) h is found =
@@ -88,10 +91,7 @@ sender_found t m x (Some e) h is found =
     let s : Sending (events t) = record { at = x.sent; within = found.1; to = a.to; message = m; is = a.is } in
     (found.0 ∙ sym (source_is (events t) t.rules.sent_once s), (s, refl, sym found.0))
 
-pub receiver_found : (t : Trace) (m : ℕ) (x : Ends) (o : Option ℕ) → m < 65536 → x ≡ get_or t.messages.items m x →
-    MatchOption o (x.received < length (events t) → receives m (does (events t) x.received) ≡ false)
-    (λ e. (e ≡ x.received) × (x.received < length (events t)) × (receives m (does (events t) x.received) ≡ true)) →
-    ReceiverAt t m o
+pub receiver_found : (t : Trace) (m : ℕ) (x : Ends) (o : Option ℕ) → m < 65536 → x ≡ get_or t.messages.items m x → Found t (receives m) x.received o → ReceiverAt t m o
 receiver_found t m x None h is found = λ r same.
     missed t receives (λ y. y.received) m x t.tables.received h is found r.at r.within (ap (receives m) r.is ∙ eq-eqb r.message m same)
 receiver_found t m x (Some e) h is found =

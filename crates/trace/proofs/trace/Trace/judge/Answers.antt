@@ -5,7 +5,7 @@ use Rattle.trace.specs.declared.event.EventFault.TheVariants.{Message}
 use Rattle.trace.specs.Growth.{events, Judged, SenderAt}
 use Rattle.trace.specs.Growth.Refused.{full, no_process}
 use Rattle.trace.specs.Growth.BreaksMessages.{unsent, misdirected, received_again}
-use Rattle.trace.proofs.Judging.{ill_sent, sent_twice, ill_received, fits_send, fits_receive, some_sender, no_sender, some_receiver, no_receipt, names_send}
+use Rattle.trace.proofs.Judging.{ill_sent, sent_twice, ill_received, fits_send, fits_receive, of_some, of_none, names_send}
 use Rattle.trace.proofs.trace.Trace.judge.Goals as goal
 use Rattle.trace.proofs.trace.Trace.judge.Goals.{then-to-self-via-then-to-self, then-to-self-via-else-to-self+then-to-event, then-not-names-via-then-not-names, then-not-names-via-else-not-names+then-is_some-2}
 
@@ -27,7 +27,7 @@ returns-then-to-self c =
 pub returns-then-is_some : goal.returns-then-is_some
 returns-then-is_some c =
     let t = c.args.self.now in
-    let s = some_sender t c.in-Send.message c.sender.result c.sender.ensures (sym c.is_some.ensures ∙ c.if-is_some.true) in
+    let s = (of_some _ _ c.sender.result c.sender.ensures (sym c.is_some.ensures ∙ c.if-is_some.true)).1.1 in
     sent_twice t.n (events t) c.args.event.now (omega arith) c.if-event-self.false c.in-Send.to c.in-Send.message c.in-Send.is c.if-to-self.false c.if-to-event.false s.0 s.1
 
 pub returns-in_err-sent-in-Receive : goal.returns-in_err-sent-in-Receive
@@ -52,14 +52,14 @@ returns-then-not-names c =
     (elim c.then-not-names.branch [
       | then-not-names-via-then-not-names w ↦ misdirected s.0 s.1 (eqb-false s.0.to p (sym named ∙ sym c.names.ensures ∙ w.if-not-names.true))
       | then-not-names-via-else-not-names+then-is_some-2 w ↦
-          let r = some_receiver t m w.receiver.result w.receiver.ensures (sym w.is_some-else-not-names.ensures ∙ w.if-is_some-2.true) in
+          let r = (of_some _ _ w.receiver.result w.receiver.ensures (sym w.is_some-else-not-names.ensures ∙ w.if-is_some-2.true)).1 in
           received_again r.0 r.1
     ])
 
 pub returns-else-is_some : goal.returns-else-is_some
 returns-else-is_some c =
     let t = c.args.self.now in
-    let none = no_sender t c.in-Send.message c.sender.result c.sender.ensures (sym c.is_some.ensures ∙ c.if-is_some.false) in
+    let none = of_none _ _ c.sender.result c.sender.ensures (sym c.is_some.ensures ∙ c.if-is_some.false) in
     fits_send t.n (events t) c.args.event.now (omega arith) c.if-event-self.false c.in-Send.to c.in-Send.message c.in-Send.is c.if-to-self.false c.if-to-event.false none
 
 pub returns-else-is_some-2 : goal.returns-else-is_some-2
@@ -75,6 +75,6 @@ returns-else-is_some-2 c =
     λ x same.
     let at = t.rules.sent_once x s.0 (same ∙ sym s.1) ∙ s.2 in
     eqb-true x.to ev.process (sym (names_send es x c.in_ok-sent-in-Receive.sent ev.process at) ∙ sym c.names.ensures ∙ c.if-not-names.false) in
-    let none = no_receipt t m c.receiver.result c.receiver.ensures (sym c.is_some-else-not-names.ensures ∙ c.if-is_some-2.false) in
+    let none = of_none _ _ c.receiver.result c.receiver.ensures (sym c.is_some-else-not-names.ensures ∙ c.if-is_some-2.false) in
     let r = fits_receive t.n es ev (omega arith) c.if-event-self.false m c.in-Receive.is s.0 s.1 named none in
     (r.0, ap (λ (e : ℕ). Some e) f.0 ∙ r.1)

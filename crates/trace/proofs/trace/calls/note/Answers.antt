@@ -1,28 +1,16 @@
-use Rattle.std.proofs.Common.{sym, ◌<◌, length, rules}
-use Rattle.std.proofs.lemmas.List.{get_or-map}
-use Rattle.trace.proofs.Tables.{noted, unnoted}
+use Rattle.std.proofs.Common.{get_or, ap, refl, rules}
+use Rattle.std.proofs.Math.Seq.{map-set_same}
+use Rattle.trace.proofs.Tables.{noted}
 use Rattle.trace.proofs.trace.calls.note.Goals as goal
 
 pub returns-in-Send-clause-sent : goal.returns-in-Send-clause-sent
-returns-in-Send-clause-sent c =
-    let ms = c.args.messages.now in
-    let h : c.in-Send.message < length ms = search rules in
-    λ m. rw c.in-Send.is (noted (λ x. x.sent) ms c.in-Send.message _ h m)
+returns-in-Send-clause-sent c = λ m. rw c.in-Send.is (noted (λ x. x.sent) c.args.messages.now c.in-Send.message _ (search rules) m)
 
 pub returns-in-Send-clause-received : goal.returns-in-Send-clause-received
-returns-in-Send-clause-received c =
-    let ms = c.args.messages.now in
-    let h : c.in-Send.message < length ms = search rules in
-    λ m. rw c.in-Send.is (unnoted (λ x. x.received) ms c.in-Send.message _ (sym (get_or-map (λ x. x.received) ms c.in-Send.message _ 0 h)) m)
+returns-in-Send-clause-received c = λ m. rw c.in-Send.is (ap (λ xs. get_or xs m 0) (map-set_same (λ x. x.received) c.args.messages.now c.in-Send.message _ _ refl))
 
 pub returns-in-Receive-clause-sent : goal.returns-in-Receive-clause-sent
-returns-in-Receive-clause-sent c =
-    let ms = c.args.messages.now in
-    let h : c.in-Receive.message < length ms = search rules in
-    λ m. rw c.in-Receive.is (unnoted (λ x. x.sent) ms c.in-Receive.message _ (sym (get_or-map (λ x. x.sent) ms c.in-Receive.message _ 0 h)) m)
+returns-in-Receive-clause-sent c = λ m. rw c.in-Receive.is (ap (λ xs. get_or xs m 0) (map-set_same (λ x. x.sent) c.args.messages.now c.in-Receive.message _ _ refl))
 
 pub returns-in-Receive-clause-received : goal.returns-in-Receive-clause-received
-returns-in-Receive-clause-received c =
-    let ms = c.args.messages.now in
-    let h : c.in-Receive.message < length ms = search rules in
-    λ m. rw c.in-Receive.is (noted (λ x. x.received) ms c.in-Receive.message _ h m)
+returns-in-Receive-clause-received c = λ m. rw c.in-Receive.is (noted (λ x. x.received) c.args.messages.now c.in-Receive.message _ (search rules) m)
