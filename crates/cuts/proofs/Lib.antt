@@ -4,6 +4,7 @@ pub mod Found
 pub mod Levelling
 pub mod Merging
 pub mod Padding
+pub mod Replying
 pub mod Searches
 pub mod Shifts
 pub mod SameJob
