@@ -1,5 +1,5 @@
 -- A test of the event at a place that was looked up, false if there is none. Assumes nothing.
-use Rattle.std.proofs.Common.{◌≡◌, ℕ, ◌<◌, ◌≤◌, Bool, true, false, List, length, None, Some, Option, MatchOption, MatchBool, refl, sym, ap, ◌∙◌, arith}
+use Rattle.std.proofs.Common.{◌≡◌, ℕ, ◌<◌, ◌≤◌, Bool, false, List, length, None, Some, Option, MatchOption, sym, ap, ◌∙◌, arith}
 use Rattle.trace.specs.declared.event.Event.{Event}
 use Rattle.trace.specs.Events.{event as event_at}
 

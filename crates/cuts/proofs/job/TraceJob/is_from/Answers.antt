@@ -1,4 +1,4 @@
-use Rattle.std.proofs.Common.{◌≡◌, ◌<◌, ◌==◌, length, arith, rules}
+use Rattle.std.proofs.Common.{◌<◌, ◌==◌, length, arith, rules}
 use Rattle.cuts.specs.Jobs.{happened}
 use Rattle.cuts.specs.Sides.{sent_from}
 use Rattle.cuts.proofs.Deals.{from_nobody, from_sender}

@@ -1,4 +1,4 @@
-use Rattle.std.proofs.Common.{◌≡◌, rules}
+use Rattle.std.proofs.Common.{rules}
 use Rattle.trace.specs.Events.{does, nth}
 use Rattle.cuts.specs.Jobs.{happened}
 use Rattle.cuts.specs.Sides.{asks}

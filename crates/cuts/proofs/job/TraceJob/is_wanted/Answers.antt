@@ -1,4 +1,4 @@
-use Rattle.std.proofs.Common.{◌≡◌, rules}
+use Rattle.std.proofs.Common.{rules}
 use Rattle.payload.specs.Marks.{wanted_by}
 use Rattle.cuts.specs.Watched.{state_wanted}
 use Rattle.cuts.specs.Jobs.{happened}

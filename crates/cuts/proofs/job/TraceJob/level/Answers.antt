@@ -1,4 +1,4 @@
-use Rattle.std.proofs.Common.{◌≡◌, ◌<◌, sym, ◌∙◌, arith, rules, tests}
+use Rattle.std.proofs.Common.{◌<◌, sym, ◌∙◌, arith, rules, tests}
 use Rattle.lattice.specs.Order.{at}
 use Rattle.cuts.specs.Jobs.{happened}
 use Rattle.cuts.specs.Channels.{sent, received}

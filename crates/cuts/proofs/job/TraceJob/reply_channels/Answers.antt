@@ -1,4 +1,4 @@
-use Rattle.std.proofs.Common.{◌≡◌, sym, ◌∙◌, subst, rules}
+use Rattle.std.proofs.Common.{◌≡◌, sym, subst, rules}
 use Rattle.lattice.specs.Order.{at}
 use Rattle.cuts.specs.Cuts.{beyond}
 use Rattle.cuts.specs.Jobs.{processes, happened, listed, channels_reply, ChannelsSays}
