@@ -15,9 +15,6 @@ reply c =
     replied (beyond (processes j) (happened j) (at v)) c.unless_beyond.result (λ x. channels_reply j v ≡ x) c.unless_beyond.ensures (reply_beyond (processes j) (happened j) (listed j) (at v))
     (λ e found. let is : c.unless_beyond.result ≡ channels_reply j v = search rules in sym is)
 
-pub returns-clause-is : goal.returns-clause-is
-returns-clause-is c = sym (reply c)
-
 pub returns-clause-says : goal.returns-clause-says
 returns-clause-says c =
     let j = c.args.self.now in
