@@ -2,6 +2,7 @@ pub mod Counting
 pub mod Deals
 pub mod Found
 pub mod Levelling
+pub mod Mapped
 pub mod Merging
 pub mod Padding
 pub mod Replying
