@@ -1,32 +1,15 @@
--- The lift of the side that is behind is the reply on the channel. Assumes nothing.
-use Rattle.std.proofs.Common.{◌≡◌, ℕ, ◌+◌, ◌<◌, nat_lt, List, ap, sym, ◌∙◌, arith}
-use Rattle.std.proofs.lemmas.Bool.{cond-true, cond-false, lt-ltb, le-ltb}
+-- The lift of the side of a channel that is behind. Assumes nothing.
+use Rattle.std.proofs.Common.{◌≡◌, ℕ, ◌+◌, ◌-◌, ◌<◌, List, get_or, ap, ◌∙◌, arith}
 use Rattle.lattice.specs.declared.condition.Reply.{Reply}
 use Rattle.trace.specs.declared.event.Event.{Event}
-use Rattle.cuts.specs.declared.channel.Channel.{Channel}
-use Rattle.cuts.specs.Channels.{sent, received, lifted_to, levels, Level}
+use Rattle.cuts.specs.Channels.{lifted_to}
 
-module _ (es : List Event) (c : Channel) (h : ℕ → ℕ) (from missing : ℕ) (r : Reply) where
-  abbrev to_sender : Reply
-  to_sender = lifted_to es (sent es c) c.sender (h c.sender) (received es c (h c.receiver))
-
-  abbrev to_receiver : Reply
-  to_receiver = lifted_to es (received es c) c.receiver (h c.receiver) (sent es c (h c.sender))
-
-  pub sender_lifted : from ≡ h c.sender → sent es c from + missing ≡ received es c (h c.receiver) → 0 < missing → r ≡ lifted_to es (sent es c) c.sender from (sent es c from + missing)
-      → (Level es c h → ⊥) × (r ≡ levels es c h)
-  sender_lifted at even more is =
-      let here = ap (sent es c) at in (
-        λ l. omega arith,
-        is ∙ ap (lifted_to es (sent es c) c.sender from) even ∙ ap (λ (x : ℕ). lifted_to es (sent es c) c.sender x (received es c (h c.receiver))) at
-            ∙ sym (cond-true (nat_lt (sent es c (h c.sender)) (received es c (h c.receiver))) to_sender to_receiver (lt-ltb _ _ (omega arith))),
-      )
-
-  pub receiver_lifted : from ≡ h c.receiver → received es c from + missing ≡ sent es c (h c.sender) → 0 < missing → r ≡ lifted_to es (received es c) c.receiver from (received es c from + missing)
-      → (Level es c h → ⊥) × (r ≡ levels es c h)
-  receiver_lifted at even more is =
-      let here = ap (received es c) at in (
-        λ l. omega arith,
-        is ∙ ap (lifted_to es (received es c) c.receiver from) even ∙ ap (λ (x : ℕ). lifted_to es (received es c) c.receiver x (sent es c (h c.sender))) at
-            ∙ sym (cond-false (nat_lt (sent es c (h c.sender)) (received es c (h c.receiver))) to_sender to_receiver (le-ltb _ _ (omega arith))),
-      )
+-- process i is at fewer than process k is, and is lifted by what it misses
+pub behind : (es : List Event) (counted other : ℕ → ℕ) (i k few many : ℕ) (r : Reply) (xs ys hs : List ℕ) → xs ≡ hs → ys ≡ hs → few ≡ counted (get_or xs i 0) → many ≡ other (get_or ys k 0) → few < many
+    → r ≡ lifted_to es counted i (get_or xs i 0) (counted (get_or xs i 0) + (many - few))
+    → (counted (get_or hs i 0) < other (get_or hs k 0)) × (r ≡ lifted_to es counted i (get_or hs i 0) (other (get_or hs k 0)))
+behind es counted other i k few many r xs ys hs x y own its less is =
+    let here : few ≡ counted (get_or hs i 0) = own ∙ ap (λ (zs : List ℕ). counted (get_or zs i 0)) x in
+    let there : many ≡ other (get_or hs k 0) = its ∙ ap (λ (zs : List ℕ). other (get_or zs k 0)) y in
+    let even : counted (get_or hs i 0) + (many - few) ≡ other (get_or hs k 0) = omega arith in
+    (omega arith, is ∙ ap (λ (zs : List ℕ). lifted_to es counted i (get_or zs i 0) (counted (get_or zs i 0) + (many - few))) x ∙ ap (lifted_to es counted i (get_or hs i 0)) even)

@@ -2,8 +2,10 @@ pub mod Counting
 pub mod Deals
 pub mod Found
 pub mod Levelling
+pub mod Mapped
 pub mod Merging
 pub mod Padding
+pub mod Replying
 pub mod Searches
 pub mod Shifts
 pub mod SameJob

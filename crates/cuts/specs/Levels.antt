@@ -18,24 +18,25 @@ sent_mono es c = tally_mono es (to_process c.receiver) c.sender
 pub received_mono : (es : List Event) (c : Channel) → Rising (received es c)
 received_mono es c = tally_mono es (from_process es c.sender) c.receiver
 
--- the reply on one channel: the side that is behind, as a search on it answers
+-- the reply on one channel: the side that is behind is lifted
+pub levels_sender : (es : List Event) (c : Channel) (h : ℕ → ℕ) → sent es c (h c.sender) < received es c (h c.receiver)
+    → levels es c h ≡ lifted_to es (sent es c) c.sender (h c.sender) (received es c (h c.receiver))
+levels_sender es c h lt = cond-true (nat_lt (sent es c (h c.sender)) (received es c (h c.receiver))) _ _ (lt-ltb _ _ lt)
+
+pub levels_receiver : (es : List Event) (c : Channel) (h : ℕ → ℕ) → received es c (h c.receiver) < sent es c (h c.sender)
+    → levels es c h ≡ lifted_to es (received es c) c.receiver (h c.receiver) (sent es c (h c.sender))
+levels_receiver es c h lt = cond-false (nat_lt (sent es c (h c.sender)) (received es c (h c.receiver))) _ _ (le-ltb _ _ (omega arith))
+
+-- as a search on it answers
 pub lifts_sender : (es : List Event) (c : Channel) (h : ℕ → ℕ) (o : Option ℕ) → sent es c (h c.sender) < received es c (h c.receiver)
     → MatchOption o (Short es (sent es c) c.sender (received es c (h c.receiver))) (λ q. Reaches es (sent es c) c.sender (received es c (h c.receiver)) q)
     → levels es c h ≡ lift_or c.sender o
-lifts_sender es c h o lt found =
-    let s = sent es c (h c.sender) in
-    let r = received es c (h c.receiver) in
-    cond-true (nat_lt s r) (lifted_to es (sent es c) c.sender (h c.sender) r) (lifted_to es (received es c) c.receiver (h c.receiver) s) (lt-ltb s r lt)
-    ∙ lift_is es (sent es c) (sent_mono es c) c.sender r (h c.sender) o lt found
+lifts_sender es c h o lt found = levels_sender es c h lt ∙ lift_is es (sent es c) (sent_mono es c) c.sender (received es c (h c.receiver)) (h c.sender) o lt found
 
 pub lifts_receiver : (es : List Event) (c : Channel) (h : ℕ → ℕ) (o : Option ℕ) → received es c (h c.receiver) < sent es c (h c.sender)
     → MatchOption o (Short es (received es c) c.receiver (sent es c (h c.sender))) (λ q. Reaches es (received es c) c.receiver (sent es c (h c.sender)) q)
     → levels es c h ≡ lift_or c.receiver o
-lifts_receiver es c h o lt found =
-    let s = sent es c (h c.sender) in
-    let r = received es c (h c.receiver) in
-    cond-false (nat_lt s r) (lifted_to es (sent es c) c.sender (h c.sender) r) (lifted_to es (received es c) c.receiver (h c.receiver) s) (le-ltb s r (omega arith))
-    ∙ lift_is es (received es c) (received_mono es c) c.receiver s (h c.receiver) o lt found
+lifts_receiver es c h o lt found = levels_receiver es c h lt ∙ lift_is es (received es c) (received_mono es c) c.receiver (sent es c (h c.sender)) (h c.receiver) o lt found
 
 -- the reply on all of them, computed from the first uneven one
 module _ (n : ℕ) (es : List Event) (cs : List Channel) (h : ℕ → ℕ) where

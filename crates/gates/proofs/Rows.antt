@@ -89,13 +89,13 @@ module _ (n : ℕ) (table : List Order) (i : ℕ) (o : Order) (even : All (λ (y
       ∙ ap (λ row. get_or row (from + past) 0) (sym (row_at table i o lt))
 
 -- an order that is put in a table takes one row, and no other
-pub put_row : (n : ℕ) (table : List Order) (i : ℕ) (o : Order) (list : List ℕ) → i < length table → i < n → OrderOf n list →
-    ((p : ℕ) → p < n → get_or o.numbers p 0 ≡ get_or list p 0) → Put n i list (number_at (rows_of table)) (number_at (rows_of (set table i o)))
-put_row n table i o list lt inside order same =
+pub put_row : (n : ℕ) (table : List Order) (i : ℕ) (o : Order) (list : List ℕ) → i < length table → i < n
+    → OrderOf n list × ((p : ℕ) → p < n → get_or o.numbers p 0 ≡ get_or list p 0) × (o.count ≡ n) → Put n i list (number_at (rows_of table)) (number_at (rows_of (set table i o)))
+put_row n table i o list lt inside taken =
     let put : rows_of (set table i o) ≡ set (rows_of table) i o.numbers = map-set (λ (x : Order). x.numbers) table i o in
     record {
       row = inside;
-      order = order;
-      here = λ p l. ap (λ t. number_at t i p) put ∙ ap (λ r. get_or r p 0) (get_or-set_same (rows_of table) i o.numbers [] (omega (arith, length-map table (λ (x : Order). x.numbers)))) ∙ same p l;
+      order = taken.0;
+      here = λ p l. ap (λ t. number_at t i p) put ∙ ap (λ r. get_or r p 0) (get_or-set_same (rows_of table) i o.numbers [] (omega (arith, length-map table (λ (x : Order). x.numbers)))) ∙ taken.1 p l;
       others = λ k p ne. ap (λ t. number_at t k p) put ∙ ap (λ r. get_or r p 0) (get_or-set_other (rows_of table) i k o.numbers [] ne);
     }

@@ -109,12 +109,10 @@ impl TraceJob {
     fn lift_uneven(&self, v: &Vector) -> Reply
         ensures { beyond (processes self.now) (happened self.now) (at v.now) ≡ false → result ≡ channels_reply self.now v.now }
     {
-        for channel in &self.channels {
-            if let Some(reply) = self.level(channel, v) {
-                return reply;
-            }
-        }
-        Reply::Holds
+        self.channels
+            .iter()
+            .find_map(|channel| self.level(channel, v))
+            .unwrap_or(Reply::Holds)
     }
 
     // The reply of the channels condition.

@@ -14,11 +14,7 @@ returns-in_err-order c =
     rw (p.1, p.2, c.in_err-order.ensures.0) (no_order (omega arith) c.in_err-order.ensures.1, refl)
 
 pub returns-in-Vans : goal.returns-in-Vans
-returns-in-Vans c =
-    let put = c.in_ok-order.ensures in
-    rw c.in-Vans.is (put_row c.args.self.now.count c.args.self.now.vans c.args.row c.in_ok-order.order c.args.order.now (omega arith) (omega arith) put.0 put.1, refl, refl)
+returns-in-Vans c = rw c.in-Vans.is (put_row _ c.args.self.now.vans c.args.row c.in_ok-order.order c.args.order.now (omega arith) (omega arith) c.in_ok-order.ensures, refl, refl)
 
 pub returns-in-Gates : goal.returns-in-Gates
-returns-in-Gates c =
-    let put = c.in_ok-order.ensures in
-    rw c.in-Gates.is (put_row c.args.self.now.count c.args.self.now.gates c.args.row c.in_ok-order.order c.args.order.now (omega arith) (omega arith) put.0 put.1, refl, refl)
+returns-in-Gates c = rw c.in-Gates.is (put_row _ c.args.self.now.gates c.args.row c.in_ok-order.order c.args.order.now (omega arith) (omega arith) c.in_ok-order.ensures, refl, refl)
