@@ -9,7 +9,7 @@ fn digit(byte: u8) -> Option<u8>
 }
 
 // The bytes that a word writes, two digits for each, put into the memory as far as it reaches; nothing if it writes none.
-// Their number, as a read returns it: a part of the memory that is lent out leaves the memory no value for a clause to name.
+// Their number, as a read returns it: the memory is the caller's, who goes on with it.
 pub fn decode(word: &[u8], memory: &mut [u8]) -> Option<usize>
     ensures { MatchOption result ((bytes : List ℕ) → Spells word.now bytes → ⊥) (λ n. Decoded word.now n memory.new) }
 {

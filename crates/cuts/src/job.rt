@@ -17,7 +17,8 @@ mod watched;
 // The most channels that are listed.
 pub const LISTED: usize = 8;
 
-// A trace with what is asked of it: the wish, the watched processes by their bits, and the listed channels.
+// A trace with what is asked of it: the wish, the watched processes by their bits as files have them, and the listed channels,
+// for which there is room from the start.
 #[derive(Drop)]
 pub struct TraceJob {
     trace: Trace,

@@ -6,11 +6,8 @@ mod report;
 use crate::depot::depot;
 use crate::report::Placing;
 use anyhow::Context;
-use lattice::board::Board;
+use lattice::board::{Board, DECIDING};
 use std::io;
-
-// No search makes more lifts than this, so a run with this budget decides.
-const DECIDING: u32 = 32_000_000;
 
 // Searches, and prints the placing that is left.
 fn search(rt: &impl Print, placing: &mut Placing) -> io::Result<()> {

@@ -3,7 +3,7 @@ use Rattle.std.specs.List.{All}
 use Rattle.std.proofs.Common.{◌≡◌, ℕ, ◌+◌, ◌-◌, ◌<◌, List, [], length, get_or, set, take, drop, sym, refl, ap, ◌∙◌, subst, arith}
 use Rattle.std.proofs.lemmas.List.{get_or-map, get_or-set_same, get_or-set_other, get_or-take, get_or-drop, length-map, length-take-le, length-drop, map-set}
 use Rattle.gates.specs.declared.order.Order.{Order}
-use Rattle.gates.specs.Orders.{most, number_at, position, Whole, OrderOf, Put}
+use Rattle.gates.specs.Orders.{most, number_at, position, OrderOf, Put}
 use Rattle.gates.specs.Gates.{rows_of}
 use Rattle.gates.specs.Positions.{Ranked, ranked_from, stands}
 
@@ -15,13 +15,6 @@ pub record Filled (n : ℕ) (order : ℕ → ℕ) (p : ℕ) (row ranks : List �
   pub small : (k : ℕ) → k < p → order k < n
   pub marked : (k : ℕ) → k < p → get_or ranks (order k) 0 ≡ k
   pub marks : (x : ℕ) → x < n → get_or ranks x 0 < n → (get_or ranks x 0 < p) × (order (get_or ranks x 0) ≡ x)
-
--- a number that stands in the row already: the order does not have each once
-pub twice : (n : ℕ) (order : ℕ → ℕ) (p : ℕ) (row ranks : List ℕ) → p < n → Filled n order p row ranks → order p < n → get_or ranks (order p) 0 < n → Whole n order → ⊥
-twice n order p row ranks lp f lx old w =
-    let before = f.marks (order p) lx old in
-    let same : get_or ranks (order p) 0 ≡ p = w.distinct (get_or ranks (order p) 0) p (omega arith) lp before.1 in
-    omega (arith, before.0)
 
 -- the row may stand for the order
 pub filled_row : (n : ℕ) (order : ℕ → ℕ) (p : ℕ) (row ranks : List ℕ) → Filled n order p row ranks → Filled n (λ k. get_or row k 0) p row ranks

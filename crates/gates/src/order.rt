@@ -53,7 +53,7 @@ impl Order {
             return Err(OrderFault::Order);
         }
         let mut order = [0; MOST];
-        // A number that has not come yet has the rank `count`, as no position is that.
+        // A number that has not come yet has the rank `count`, as no position is that: an `Option` for each would have to be taken out again.
         let mut ranks = [count as u8; MOST];
         for (p, &number) in numbers.iter().enumerate() {
             let x = usize::from(number);

@@ -5,6 +5,9 @@ use crate::verdict::Verdict;
 
 mod calls;
 
+// No search makes more lifts than this, so a run with this budget decides.
+pub const DECIDING: u32 = 32_000_000;
+
 // What a read answers.
 #[derive(Clone, Copy)]
 pub struct Reading {

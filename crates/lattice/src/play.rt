@@ -9,6 +9,7 @@ pub fn play<C: Condition>(condition: &C, calls: &[Call]) -> Board
     ensures { Played (C.holds condition.now) (C.reply condition.now) calls.now result }
 {
     let mut board = Board::new();
+    // A list of calls is data: the promise is about the calls that were made, and a closure would have no name in it.
     for call in calls {
         match *call {
             Call::Floor(place, height) => {

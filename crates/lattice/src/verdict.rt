@@ -32,7 +32,7 @@ impl fmt::Display for Verdict {
     }
 }
 
-// What a run answers: the verdict that it leaves, and pending for open.
+// What a run answers: the verdict that it leaves, and pending for open; so it is a type of its own.
 #[derive(Clone, Copy, Debug, PartialEq, Eq)]
 pub enum Answer {
     Pending,

@@ -16,12 +16,6 @@ pub same_lines : (shown other : ℕ → List ℕ) (n : ℕ) → ((i : ℕ) → i
 same_lines shown other zero same = refl
 same_lines shown other (suc n) same = ap₂ ◌++◌ (same_lines shown other n (λ i l. same i (omega arith))) (ap (place_line n) (same n (omega arith)))
 
--- the gate at a position is that of every order that agrees below n
-same_gate : (n : ℕ) (order other : ℕ → ℕ) (p : ℕ) → ((q : ℕ) → q < n → order q ≡ other q) → gate_shown n order p ≡ gate_shown n other p
-same_gate n order other p agree =
-    let here = agree p in
-    grind (arith, nat_tests)
-
 pub same_letter : (j : Job) (form : Form) → Held j form → letter_of_job j ≡ letter_of form
 same_letter j (trace n watch wish channels events) (held, _) = held.lettered
 same_letter j (gates n vans rows) (held, _) = held.lettered

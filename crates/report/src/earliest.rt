@@ -3,11 +3,8 @@ ghost use Rattle.report.specs.Earliest.{Answered};
 
 use crate::write;
 use jobfile::job::Job;
-use lattice::board::Board;
+use lattice::board::{Board, DECIDING};
 use refusal::Refusal;
-
-// A budget that always decides.
-pub const BUDGET: u32 = 32_000_000;
 
 // Reads a file, searches for the earliest solution of its job, and writes the report into the memory. The job's own
 // memory serves every file; nothing is asked for here.
@@ -18,7 +15,7 @@ pub fn earliest(file: &[u8], job: &mut Job, memory: &mut [u8]) -> Result<usize, 
         Err(refusal) => write::write_refusal(&refusal, memory),
         Ok(()) => {
             let mut board = Board::new();
-            let _ = board.run(&job.condition(), BUDGET);
+            let _ = board.run(&job.condition(), DECIDING);
             write::write_report(job, &board, memory)
         }
     }

@@ -105,7 +105,7 @@ impl Places<'_> {
     {
         let height = self.vector.heights()[place];
         match self.job.kind() {
-            Some(JobKind::Gates) => match self.job.gates_part().gate_at(place, height as usize) {
+            Some(JobKind::Gates) => match self.job.gates().gate_at(place, height as usize) {
                 Some(gate) => text.push_str(Buffer::new().format(gate)),
                 None => text.push('-'),
             },

@@ -3,6 +3,7 @@ use refusal::Layer;
 use std::process::Abort;
 use std::test::Fail;
 
+// By the number that the rule has in the table, since that is what a caller is shown.
 fn refuses(
     rt: &impl Abort,
     job: &mut Job,

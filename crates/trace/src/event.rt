@@ -8,7 +8,7 @@ pub enum Action {
     Receive { message: u16 },
 }
 
-// An event of a process, with its payload in the first of four bytes.
+// An event of a process, with its payload in the first of four bytes, so that an event has one size for every kind.
 #[derive(Clone, Copy)]
 pub struct Event {
     pub process: u8,

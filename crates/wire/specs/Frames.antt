@@ -30,7 +30,7 @@ abbrev pub job_letter : JobKind → ℕ
 job_letter kind.Trace = trace_letter
 job_letter kind.Gates = gates_letter
 
--- the greatest n, by the letter
+-- the greatest n, the same for both letters
 abbrev pub most : ℕ → ℕ
 most letter = 16
 

@@ -1,16 +1,12 @@
-use cuts::channel::Channel;
 use cuts::conditions::condition;
 use cuts::fault::JobFault;
 use cuts::job::TraceJob;
 use lattice::board::Board;
-use lattice::condition::Reply;
-use lattice::vector::Vector;
 use lattice::verdict::Answer;
 use payload::kinds::ScanWish;
 use payload::wish::Wish;
-use refusal::Refusal;
 use std::test::Fail;
-use trace::event::{Action, EventFault};
+use trace::event::Action;
 
 // Process 0 sends message 7 to 1, which has an event before it receives the message and one after.
 fn record(job: &mut TraceJob, wish: u8, linked: bool) -> Result<(), JobFault> {

@@ -63,12 +63,6 @@ impl Job {
         &self.trace
     }
 
-    pub fn gates_part(&self) -> &Gates
-        ensures { result.now ≡ self.now.gates }
-    {
-        &self.gates
-    }
-
     pub fn consistent(&self) -> Consistent<'_>
         ensures { result.job.now ≡ self.now.trace }
     {

@@ -86,9 +86,7 @@ impl Board {
             Verdict::Found => Answer::Found,
             Verdict::None => Answer::None,
             Verdict::Open => {
-                // Counted by hand: a run of budget lifts makes one probe more, and ends by the reply to it, so no range is its turns.
-                let mut used = 0u32;
-                loop {
+                for used in 0..=budget {
                     match condition.probe(&self.vector) {
                         Reply::Holds => {
                             self.verdict = Verdict::Found;
@@ -104,14 +102,14 @@ impl Board {
                                 return Answer::None;
                             }
                             if used == budget {
-                                return Answer::Pending;
+                                break;
                             }
                             self.vector.put(place, height);
                             self.count += 1;
-                            used += 1;
                         }
                     }
                 }
+                Answer::Pending
             }
         }
     }

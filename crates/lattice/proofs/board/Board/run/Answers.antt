@@ -7,8 +7,8 @@ use Rattle.lattice.proofs.board.Board.run.Given as given
 use Rattle.lattice.proofs.board.Board.run.Goals as goal
 use Rattle.lattice.proofs.board.Board.run.Goals.{After-put}
 
-pub loop-self-init : goal.loop-self-init
-loop-self-init g c = record { climb = stay; afforded = omega arith; ceilings = refl; verdict = refl; count = omega arith }
+pub loop-used-init : goal.loop-used-init
+loop-used-init g c = record { climb = stay; afforded = omega arith; ceilings = refl; verdict = refl; count = omega arith }
 
 pub returns-in-Found : goal.returns-in-Found
 returns-in-Found g c = run_call (g.met.C.Condition.lawful c.args.condition.now) (sym (ap answer_of c.in-Found.is)) (found c.in-Found.is)
@@ -18,45 +18,42 @@ returns-in-None g c = run_call (g.met.C.Condition.lawful c.args.condition.now) (
 
 pub returns-in-Holds : goal.returns-in-Holds
 returns-in-Holds g c =
-    search_ends (g.met.C.Condition.lawful c.args.condition.now) c.in-Open.is c.loop-self.invariant refl refl refl refl (holds (sym c.in-Holds.ensures))
+    search_ends (g.met.C.Condition.lawful c.args.condition.now) c.in-Open.is c.loop-used.invariant refl refl refl refl (holds (sym c.in-Holds.ensures))
 
 pub returns-in-Never : goal.returns-in-Never
 returns-in-Never g c =
-    search_ends (g.met.C.Condition.lawful c.args.condition.now) c.in-Open.is c.loop-self.invariant refl refl refl refl (never (sym c.in-Never.ensures))
+    search_ends (g.met.C.Condition.lawful c.args.condition.now) c.in-Open.is c.loop-used.invariant refl refl refl refl (never (sym c.in-Never.ensures))
 
 pub returns-then-height-at : goal.returns-then-height-at
 returns-then-height-at g c =
-    let top = ap (λ t. at t c.in-Lift.place) c.loop-self.invariant.ceilings in
-    search_ends (g.met.C.Condition.lawful c.args.condition.now) c.in-Open.is c.loop-self.invariant refl refl refl refl
+    let top = ap (λ t. at t c.in-Lift.place) c.loop-used.invariant.ceilings in
+    search_ends (g.met.C.Condition.lawful c.args.condition.now) c.in-Open.is c.loop-used.invariant refl refl refl refl
     (above (sym c.in-Lift.ensures) (omega arith))
 
 pub returns-then-used-budget : goal.returns-then-used-budget
 returns-then-used-budget g c =
-    let inv = c.loop-self.invariant in
+    let inv = c.loop-used.invariant in
     let top = ap (λ t. at t c.in-Lift.place) inv.ceilings in
     let still = inv.verdict ∙ c.in-Open.is in
     search_ends (g.met.C.Condition.lawful c.args.condition.now) c.in-Open.is inv refl refl refl (sym (ap answer_of still))
     (rw still (spent (_, _, sym c.in-Lift.ensures, omega arith) (omega arith)))
 
 pub overflow_add-self : goal.overflow_add-self
-overflow_add-self g c = omega (arith, total_bound c.loop-self.self.vector, c.loop-self.self.counted)
+overflow_add-self g c = omega (arith, total_bound c.loop-used.self.vector, c.loop-used.self.counted)
 
 -- each lift adds to the sum of the heights
-rises : (g : given.Over) (c : After-put g) → sum c.loop-self.self.vector.heights < sum c.put.new.self.heights
+rises : (g : given.Over) (c : After-put g) → sum c.loop-used.self.vector.heights < sum c.put.new.self.heights
 rises g c =
     let laws = g.met.C.Condition.lawful c.args.condition.now in
     let lifted = sym c.in-Lift.ensures in
-    omega (arith, laws.rises _ _ _ lifted, set_sum c.loop-self.self.vector c.put.new.self c.in-Lift.place c.in-Lift.height (laws.place _ _ _ lifted) c.put.ensures)
+    omega (arith, laws.rises _ _ _ lifted, set_sum c.loop-used.self.vector c.put.new.self c.in-Lift.place c.in-Lift.height (laws.place _ _ _ lifted) c.put.ensures)
 
 pub invariant_of-self-in-Lift : goal.invariant_of-self-in-Lift
-invariant_of-self-in-Lift g c = record { counted = omega (arith, rises g c, c.loop-self.self.counted) }
+invariant_of-self-in-Lift g c = record { counted = omega (arith, rises g c, c.loop-used.self.counted) }
 
-pub loop-self-smaller : goal.loop-self-smaller
-loop-self-smaller g c = omega (arith, rises g (goal.at.loop-self-smaller g c).After-put, total_bound c.put.new.self)
-
-pub loop-self-preserved : goal.loop-self-preserved
-loop-self-preserved g c =
-    let inv = c.loop-self.invariant in
+pub loop-used-preserved : goal.loop-used-preserved
+loop-used-preserved g c =
+    let inv = c.loop-used.invariant in
     let top = ap (λ t. at t c.in-Lift.place) inv.ceilings in
     record {
       climb = lift inv.climb (sym c.in-Lift.ensures) (omega arith) c.put.ensures;

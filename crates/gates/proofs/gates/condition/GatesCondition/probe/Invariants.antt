@@ -1,4 +1,4 @@
--- What the walk over the vans keep. Assumes nothing.
+-- What the walk over the vans keeps. Assumes nothing.
 use Rattle.lattice.specs.Order.{at}
 use Rattle.gates.specs.Gates.{sides}
 use Rattle.gates.specs.Replies.{QuietBelow}
