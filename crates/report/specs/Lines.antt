@@ -11,6 +11,7 @@ use Rattle.lattice.specs.declared.verdict.Verdict.TheVariants.{Open, Found, None
 use Rattle.lattice.specs.Order.{at}
 use Rattle.lattice.specs.Words.{verdict_word}
 use Rattle.gates.specs.Gates.{sides}
+use Rattle.wire.specs.Frames.{gates_letter}
 use Rattle.jobfile.specs.declared.job.Job.{Job as TheJob}
 use Rattle.jobfile.specs.Jobs.{letter_of_job, places_of}
 
@@ -43,7 +44,7 @@ gate_shown n order p = cond (nat_lt p n) (decimal (order p)) (45 ∷ [])
 
 -- of a gates job the gate is shown, of every other the height
 abbrev pub shown_by : TheJob → Vector → ℕ → List ℕ
-shown_by j v i = cond (letter_of_job j == 77) (cond (nat_lt i (sides j.gates).n) (gate_shown (sides j.gates).n ((sides j.gates).van i) (at v i)) (45 ∷ [])) (decimal (at v i))
+shown_by j v i = cond (letter_of_job j == gates_letter) (cond (nat_lt i (sides j.gates).n) (gate_shown (sides j.gates).n ((sides j.gates).van i) (at v i)) (45 ∷ [])) (decimal (at v i))
 
 abbrev pub text_of_job : TheJob → Reading → List ℕ
 text_of_job j r = report_text (letter_of_job j) (places_of j) (shown_by j r.vector) r.verdict
