@@ -1,11 +1,11 @@
 -- Fields that are taken off a body: their bytes, how one is broken, and what several take. Assumes nothing.
-use Rattle.std.proofs.Common.{◌≡◌, ℕ, ◌+◌, ◌-◌, ◌*◌, ◌/◌, ◌^◌, ◌<◌, ⊎_elim, List, [], ◌∷◌, ◌++◌, length, get_or, Bool, true, false, Result, Ok, Err, MatchResult, refl, sym, ap, ◌∙◌, subst, ap₂, arith}
+use Rattle.std.proofs.Common.{◌≡◌, ℕ, ◌+◌, ◌-◌, ◌*◌, ◌/◌, ◌^◌, ◌<◌, List, [], ◌∷◌, ◌++◌, length, get_or, Bool, true, false, Result, Ok, Err, MatchResult, refl, sym, ap, ◌∙◌, subst, ap₂, arith}
 use Rattle.std.specs.Bool.{then_some}
 use Rattle.std.specs.Option.{ok_or}
 use Rattle.std.specs.Result.{IsErrAnd}
 use Rattle.std.proofs.lemmas.Result.{err_from_is_err_and}
-use Rattle.std.proofs.lemmas.Nat.{le-div, pow_pos, be_bytes_2}
-use Rattle.std.proofs.lemmas.Bool.{cases_lt}
+use Rattle.std.proofs.lemmas.Nat.{pow_pos, be_bytes_2}
+use Rattle.std.proofs.Math.Nat.{div-lt_iff_lt-mul}
 use Rattle.refusal.specs.declared.Layer.TheVariants.{Job}
 use Rattle.refusal.specs.declared.Refusal.{Refusal}
 use Rattle.wire.specs.Bytes.{word2}
@@ -70,7 +70,7 @@ ranged_word Range {part} {before} {left} p v good place read at within out =
 
 -- a number without bits at k or above
 pub within_bits : (x k : ℕ) → x / 2 ^ k ≡ 0 → x < 2 ^ k
-within_bits x k none = ⊎_elim (λ below. below) (λ above. absurd (let some = le-div 1 x (2 ^ k) (pow_pos k) (omega arith) in omega arith)) (cases_lt x (2 ^ k))
+within_bits x k none = omega (arith, (div-lt_iff_lt-mul {x = x} {y = 1} (pow_pos k)).0 (omega arith))
 
 -- what the exit of a `?` returns
 pub err_exit : {V E : Type 0} (r : Result V E) {e : E} (P : V → Type 0) (Q : E → Type 0) → IsErrAnd r (λ d. d ≡ e) → Q e → MatchResult r P Q
