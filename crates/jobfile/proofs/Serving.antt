@@ -67,8 +67,8 @@ lettered None = inr (inr refl)
 
 pub serves : (j : Job) → Serves j
 serves j =
-    let no_trace : (letter_of_job j ≡ 84 → ⊥) → cuts.processes j.trace ≡ 0 = j.no_trace in
-    let no_gates : (letter_of_job j ≡ 77 → ⊥) → (sides j.gates).n ≡ 0 = j.no_gates in
+    let no_trace : (letter_of_job j ≡ trace_letter → ⊥) → cuts.processes j.trace ≡ 0 = λ other. j.no_trace (λ is. other (ap letter_by is)) in
+    let no_gates : (letter_of_job j ≡ gates_letter → ⊥) → (sides j.gates).n ≡ 0 = λ other. j.no_gates (λ is. other (ap letter_by is)) in
     record {
       lettered = lettered j.kind;
       no_places = λ is. rw is refl;

@@ -1,11 +1,11 @@
 -- Fields that are taken off a body: their bytes, how one is broken, and what several take. Assumes nothing.
-use Rattle.std.proofs.Common.{◌≡◌, ℕ, ◌+◌, ◌-◌, ◌*◌, ◌/◌, ◌^◌, ◌<◌, ⊎_elim, List, [], ◌∷◌, ◌++◌, length, get_or, Bool, true, false, Result, Ok, Err, MatchResult, refl, sym, ap, ◌∙◌, subst, ap₂, arith}
+use Rattle.std.proofs.Common.{◌≡◌, ℕ, ◌+◌, ◌-◌, ◌*◌, ◌/◌, ◌^◌, ◌<◌, List, [], ◌∷◌, ◌++◌, length, get_or, Bool, true, false, Result, Ok, Err, MatchResult, refl, sym, ap, ◌∙◌, subst, ap₂, arith}
 use Rattle.std.specs.Bool.{then_some}
 use Rattle.std.specs.Option.{ok_or}
 use Rattle.std.specs.Result.{IsErrAnd}
 use Rattle.std.proofs.lemmas.Result.{err_from_is_err_and}
-use Rattle.std.proofs.lemmas.Nat.{le-div, pow_pos, be_bytes_2}
-use Rattle.std.proofs.lemmas.Bool.{cases_lt}
+use Rattle.std.proofs.lemmas.Nat.{pow_pos, be_bytes_2}
+use Rattle.std.proofs.Math.Nat.{div-lt_iff_lt-mul}
 use Rattle.refusal.specs.declared.Layer.TheVariants.{Job}
 use Rattle.refusal.specs.declared.Refusal.{Refusal}
 use Rattle.wire.specs.Bytes.{word2}
@@ -15,6 +15,7 @@ use Rattle.refusal.specs.Table.{row}
 use Rattle.wire.specs.Parts.{Reads, FieldBroken, missing, range}
 use Rattle.wire.proofs.Words.{word2_number}
 use Rattle.wire.proofs.Reading.{one_byte, byte_first}
+use Rattle.jobfile.specs.declared.fault.JobFault.{JobFault as Fault}
 use Rattle.jobfile.specs.declared.fault.JobFault.TheVariants as JobFault
 use Rattle.jobfile.specs.Table.{Word}
 use Rattle.jobfile.specs.Fields.{job_row, Bytes, Took}
@@ -61,16 +62,30 @@ pub ranged : (width : ℕ) (Fits : ℕ → Type 0) (bytes : ℕ → List ℕ) (R
 ranged width Fits bytes Range before left p v true at fits is total within out = ((fits, within refl), is, total)
 ranged width Fits bytes Range before left p v false at fits is total within out = range_at width Fits bytes Range before.total before.rest.now p v left.rest.now at fits is (out refl)
 
--- such a field in two bytes
-pub ranged_word : (Range : ℕ → Type 0) {part : List ℕ} {before left : Reader} (p v : ℕ) (good : Bool) →
-    p ≡ before.total - length before.rest.now → Bytes 2 part × Took part before left → v ≡ get_or part 0 0 * 256 + get_or part 1 0 → (good ≡ true → Range v) → (good ≡ false → Range v → ⊥) →
-    Reads (λ k. Word k × Range k) word2 (FieldBroken 2 Word word2 Range) (λ k. k) job_row before (ok_or (then_some good v) (JobFault.Field p)) left
-ranged_word Range {part} {before} {left} p v good place read at within out =
-    ranged 2 Word word2 Range before left p v good place (omega (arith, at, read.0.small 0, read.0.small 1)) (first_word v read at) read.1.total within out
+-- such a field in two bytes, by any test
+pub ranged_word : (test : ℕ → Bool → Type 0) {part : List ℕ} {before left : Reader} (p v : ℕ) (good : Bool) →
+    p ≡ before.total - length before.rest.now → Bytes 2 part × Took part before left → v ≡ get_or part 0 0 * 256 + get_or part 1 0 → test v good →
+    Reads (λ k. Word k × test k true) word2 (FieldBroken 2 Word word2 (λ k. test k false → ⊥)) (λ k. k) job_row before (ok_or (then_some good v) (JobFault.Field p)) left
+ranged_word test {part} {before} {left} p v true place read at tested =
+    ((omega (arith, at, read.0.small 0, read.0.small 1), tested), first_word v read at, read.1.total)
+ranged_word test {part} {before} {left} p v false place read at tested =
+    range_at 2 Word word2 (λ k. test k false → ⊥) before.total before.rest.now p v left.rest.now place (omega (arith, at, read.0.small 0, read.0.small 1)) (first_word v read at) (λ never. never tested)
+
+-- the range that such a test decides
+module _ (Passed Failed Range : ℕ → Type 0) (within : (k : ℕ) → Word k → Passed k → Range k) (out : (k : ℕ) → Word k → Failed k → Range k → ⊥) where
+  broken_range : {total : ℕ} {s : List ℕ} {r : Refusal} → FieldBroken 2 Word word2 (λ k. Failed k → ⊥) total s r → FieldBroken 2 Word word2 Range total s r
+  broken_range (missing short) = missing short
+  broken_range (range k t fits is fails) = range k t fits is (λ good. fails (λ failed. out k fits failed good))
+
+  pub by_test : (before left : Reader) (r : Result ℕ Fault) →
+      Reads (λ k. Word k × Passed k) word2 (FieldBroken 2 Word word2 (λ k. Failed k → ⊥)) (λ k. k) job_row before r left →
+      Reads (λ k. Word k × Range k) word2 (FieldBroken 2 Word word2 Range) (λ k. k) job_row before r left
+  by_test before left (Ok k) ((fits, tested), is, total) = ((fits, within k fits tested), is, total)
+  by_test before left (Err e) broken = broken_range broken
 
 -- a number without bits at k or above
 pub within_bits : (x k : ℕ) → x / 2 ^ k ≡ 0 → x < 2 ^ k
-within_bits x k none = ⊎_elim (λ below. below) (λ above. absurd (let some = le-div 1 x (2 ^ k) (pow_pos k) (omega arith) in omega arith)) (cases_lt x (2 ^ k))
+within_bits x k none = omega (arith, (div-lt_iff_lt-mul {x = x} {y = 1} (pow_pos k)).0 (omega arith))
 
 -- what the exit of a `?` returns
 pub err_exit : {V E : Type 0} (r : Result V E) {e : E} (P : V → Type 0) (Q : E → Type 0) → IsErrAnd r (λ d. d ≡ e) → Q e → MatchResult r P Q

@@ -23,7 +23,7 @@ use Rattle.jobfile.specs.declared.fault.JobFault.{JobFault}
 use Rattle.jobfile.specs.declared.fault.JobFault.TheVariants as fault
 use Rattle.jobfile.specs.declared.fields.Kind.{Kind}
 use Rattle.jobfile.specs.declared.fields.Kind.TheVariants as kinds
-use Rattle.jobfile.specs.Forms.{channel_bytes, event_bytes, trace_bytes, row_bytes, ChannelOk, EventOk, EventsOk, TraceRules, RowOk, RowsOk}
+use Rattle.jobfile.specs.Forms.{code_letter, scan_letter, channel_bytes, event_bytes, trace_bytes, row_bytes, ChannelOk, EventOk, EventsOk, TraceRules, RowOk, RowsOk}
 
 -- each fault of the job reader as its row: those of the layers below are theirs
 abbrev pub job_row : JobFault → Refusal
@@ -35,8 +35,8 @@ job_row (fault.Message p) = row rule.Message p Job
 
 -- the letter of a kind of payload
 abbrev pub letter_of_kind : Kind → ℕ
-letter_of_kind kinds.Code = 75
-letter_of_kind kinds.Scan = 67
+letter_of_kind kinds.Code = code_letter
+letter_of_kind kinds.Scan = scan_letter
 
 -- these bytes are taken, and what follows them is left
 pub record Took (bytes : List ℕ) (before left : Reader) : Type 0 where

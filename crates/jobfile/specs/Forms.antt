@@ -38,10 +38,16 @@ abbrev pub size_of : Form → ℕ
 size_of (trace n watch wish channels events) = n
 size_of (gates n vans rows) = n
 
--- the payload letter, K for codes and C for scans, and the bytes of a wish
+-- the payload letters, K for codes and C for scans, and the bytes of a wish
+abbrev pub code_letter : ℕ
+code_letter = 75
+
+abbrev pub scan_letter : ℕ
+scan_letter = 67
+
 abbrev pub kind_letter : Wish → ℕ
-kind_letter (Code c) = 75
-kind_letter (Scan s) = 67
+kind_letter (Code c) = code_letter
+kind_letter (Scan s) = scan_letter
 
 abbrev pub wish_bytes : Wish → List ℕ
 wish_bytes (Code c) = c ∷ []

@@ -14,7 +14,7 @@ use Rattle.wire.specs.Bytes.{word2}
 use Rattle.wire.specs.Parts.{Then, Each, FieldBroken}
 use Rattle.wire.specs.Frames.{trace_letter, gates_letter, Framed, FrameBroken, Behind}
 use Rattle.wire.specs.Records.{RecordBroken}
-use Rattle.jobfile.specs.Forms.{Form, letter_of, size_of, kind_letter, wish_bytes, channel_bytes, event_bytes, row_bytes, body_of, WishFits, ChannelOk, EventOk, EventsOk, RowOk, Rules}
+use Rattle.jobfile.specs.Forms.{Form, letter_of, size_of, code_letter, scan_letter, kind_letter, wish_bytes, channel_bytes, event_bytes, row_bytes, body_of, WishFits, ChannelOk, EventOk, EventsOk, RowOk, Rules}
 
 -- what fits into one byte, and a field of it with a range and what follows it
 abbrev pub Byte : ℕ → Type 0
@@ -39,10 +39,10 @@ ListThen count Good bytes Broken After = Then (λ xs. (length xs ≡ count) × G
 
 -- the payload letters, and how wide a payload is
 abbrev pub IsKind : ℕ → Type 0
-IsKind letter = (letter ≡ 75) ⊎ (letter ≡ 67)
+IsKind letter = (letter ≡ code_letter) ⊎ (letter ≡ scan_letter)
 
 abbrev pub kind_width : ℕ → ℕ
-kind_width letter = cond (letter == 75) 1 4
+kind_width letter = cond (letter == code_letter) 1 4
 
 -- a wish of the kind that the letter names; every number is in its range
 abbrev pub WishOf : ℕ → Wish → Type 0

@@ -50,7 +50,8 @@ impl<'a> From<Record<'a>> for Happening<'a> {
     }
 }
 
-// One event more. The trace itself knows whether a rule of messages is broken.
+// One event more. The trace itself knows whether a rule of messages is broken. Here and below the reader and the job stand
+// apart: they are lent by different owners, so a struct of both would be made only to be taken apart.
 fn event(reader: &mut Reader<'_>, job: &mut TraceJob) -> Result<(), JobFault>
     requires { length (happened job.old) < longest }
     ensures { MatchResult result (λ _. EventRead reader.old reader.new job.old job.new) (λ e. EventBroken (processes job.old) (width_of job.old.wish) reader.old.total (happened job.old) reader.old.rest.now (job_row e)) }

@@ -1,4 +1,4 @@
-ghost use Rattle.std.specs.Prelude.{◌≡◌, ℕ, ◌^◌, ◌<◌, ◌≤◌, [], length, MatchResult, slice_index};
+ghost use Rattle.std.specs.Prelude.{◌≡◌, ℕ, ◌^◌, ◌<◌, ◌≤◌, [], length, true, false, MatchResult, slice_index};
 ghost use Rattle.std.specs.List.{AllByRecursion};
 ghost use Rattle.refusal.specs.declared.Layer.TheVariants.{Job};
 ghost use Rattle.refusal.specs.declared.Rule.TheVariants as rule;
@@ -27,12 +27,22 @@ pub(crate) enum Kind {
     Scan,
 }
 
-// The bytes of a field. Each field tests its range itself, since no closure over an array of N bytes can be a parameter yet.
+// The bytes of a field.
 fn bytes<const N: usize>(reader: &mut Reader<'_>) -> Result<[u8; N], JobFault>
     ensures { BytesRead N reader.old result reader.new }
 {
     let missing = JobFault::Missing(reader.total());
     reader.take_array::<N>().ok_or(missing)
+}
+
+// A number in two bytes, if it is in its range.
+fn word<F: FnOnce(u16) -> bool>(reader: &mut Reader<'_>, in_range: F) -> Result<u16, JobFault>
+    requires { F.IsAlwaysCallable in_range }
+    ensures { Reads (λ v. Word v × F.post in_range v true) word2 (FieldBroken 2 Word word2 (λ v. F.post in_range v false → ⊥)) (λ v. v) job_row reader.old result reader.new }
+{
+    let range = JobFault::Field(reader.position());
+    let value = u16::from_be_bytes(bytes::<2>(reader)?);
+    in_range(value).then_some(value).ok_or(range)
 }
 
 // The payload letter.
@@ -52,10 +62,7 @@ pub(crate) fn payload_letter(reader: &mut Reader<'_>) -> Result<Kind, JobFault>
 pub(crate) fn watch(reader: &mut Reader<'_>, frame: Frame) -> Result<u16, JobFault>
     ensures { Reads (λ v. Word v × (v < 2 ^ frame.n)) word2 (FieldBroken 2 Word word2 (λ v. v < 2 ^ frame.n)) (λ v. v) job_row reader.old result reader.new }
 {
-    let range = JobFault::Field(reader.position());
-    let watch = u16::from_be_bytes(bytes::<2>(reader)?);
-    let below = u32::from(watch) >> frame.n == 0;
-    below.then_some(watch).ok_or(range)
+    word(reader, |watch| u32::from(watch) >> frame.n == 0)
 }
 
 // The wish in a part of the file. What a function is handed is known to hold bytes, and this passes that on.
@@ -84,7 +91,7 @@ pub(crate) fn wish(reader: &mut Reader<'_>, kind: Kind) -> Result<Wish, JobFault
     }
 }
 
-// How many channels there are.
+// How many channels there are: the only range of numbers in one byte, so it is tested here.
 pub(crate) fn channel_count(reader: &mut Reader<'_>) -> Result<u8, JobFault>
     ensures { Reads (λ v. Byte v × (v ≤ 8)) byte_of (FieldBroken 1 Byte byte_of (λ v. v ≤ 8)) (λ v. v) job_row reader.old result reader.new }
 {
@@ -128,8 +135,5 @@ pub(crate) fn channel_list(
 pub(crate) fn event_count(reader: &mut Reader<'_>) -> Result<u16, JobFault>
     ensures { Reads (λ v. Word v × (v ≤ longest)) word2 (FieldBroken 2 Word word2 (λ v. v ≤ longest)) (λ v. v) job_row reader.old result reader.new }
 {
-    let range = JobFault::Field(reader.position());
-    let count = u16::from_be_bytes(bytes::<2>(reader)?);
-    let few = count as usize <= LONGEST;
-    few.then_some(count).ok_or(range)
+    word(reader, |count| count as usize <= LONGEST)
 }

@@ -11,6 +11,7 @@ use Rattle.lattice.specs.declared.verdict.Verdict.TheVariants.{Open, Found, None
 use Rattle.lattice.specs.Order.{at}
 use Rattle.lattice.specs.Words.{verdict_word}
 use Rattle.gates.specs.Gates.{sides}
+use Rattle.wire.specs.Frames.{gates_letter}
 use Rattle.jobfile.specs.declared.job.Job.{Job as TheJob}
 use Rattle.jobfile.specs.Jobs.{letter_of_job, places_of}
 
@@ -37,13 +38,17 @@ report_text letter n shown Open = first_line letter Open
 report_text letter n shown Found = first_line letter Found ++ place_lines shown n
 report_text letter n shown None = first_line letter None
 
--- the gate at a position of an order of n gates, or - where there is none
+-- where there is no gate: -
+abbrev pub no_gate : List ℕ
+no_gate = 45 ∷ []
+
+-- the gate at a position of an order of n gates, if there is one
 abbrev pub gate_shown : ℕ → (ℕ → ℕ) → ℕ → List ℕ
-gate_shown n order p = cond (nat_lt p n) (decimal (order p)) (45 ∷ [])
+gate_shown n order p = cond (nat_lt p n) (decimal (order p)) no_gate
 
 -- of a gates job the gate is shown, of every other the height
 abbrev pub shown_by : TheJob → Vector → ℕ → List ℕ
-shown_by j v i = cond (letter_of_job j == 77) (cond (nat_lt i (sides j.gates).n) (gate_shown (sides j.gates).n ((sides j.gates).van i) (at v i)) (45 ∷ [])) (decimal (at v i))
+shown_by j v i = cond (letter_of_job j == gates_letter) (cond (nat_lt i (sides j.gates).n) (gate_shown (sides j.gates).n ((sides j.gates).van i) (at v i)) no_gate) (decimal (at v i))
 
 abbrev pub text_of_job : TheJob → Reading → List ℕ
 text_of_job j r = report_text (letter_of_job j) (places_of j) (shown_by j r.vector) r.verdict
