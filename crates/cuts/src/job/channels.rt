@@ -21,9 +21,7 @@ impl TraceJob {
     fn is_on(&self, side: Side, number: u32) -> bool
         ensures { result ≡ asks (happened self.now) side (does (happened self.now) (nth (happened self.now) side.place number)) }
     {
-        self.trace
-            .nth(side.place, number)
-            .and_then(|place| self.trace.event(place))
+        self.nth_event(side.place, number)
             .is_some_and(|event| self.deals(side, event.action))
     }
 

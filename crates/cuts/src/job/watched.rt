@@ -22,9 +22,7 @@ impl TraceJob {
     fn is_wanted(&self, process: usize, height: u32) -> bool
         ensures { result ≡ state_wanted (happened self.now) self.now.wish process height }
     {
-        self.trace
-            .nth(process, height)
-            .and_then(|place| self.trace.event(place))
+        self.nth_event(process, height)
             .is_some_and(|event| self.wish.marks(&event.payload))
     }
 
