@@ -1,5 +1,6 @@
 -- A test of the event at a place that was looked up, false if there is none. Assumes nothing.
 use Rattle.std.proofs.Common.{◌≡◌, ℕ, ◌<◌, ◌≤◌, Bool, false, List, length, None, Some, Option, MatchOption, sym, ap, ◌∙◌, arith}
+use Rattle.std.specs.Option.{IsSomeAnd}
 use Rattle.trace.specs.declared.event.Event.{Event}
 use Rattle.trace.specs.Events.{by, number, total, nth, event as event_at}
 use Rattle.cuts.specs.Cutting.{Nth, nth_is, nth_there}
@@ -32,3 +33,11 @@ pub tested : (test : Event → Bool) (is : Bool) (event : Option Event) (r : Boo
     → ((e : Event) → P e → test e ≡ is) → r ≡ is
 tested test is None r n off _ none there = off ∙ sym (none n)
 tested test is (Some e) r at on judged none there = judged e on ∙ there e at
+
+-- what an option that was mapped gives, from what the option gives
+pub map_then : {A B : Type 0} (o : Option A) (r : Option B) {N M : Type 0} {P : A → B → Type 0} {F : A → Type 0} (S : B → Type 0) → MatchOption o (r ≡ None) (λ x. IsSomeAnd r (P x)) → MatchOption o N F → (N → M) → ((x : A) (y : B) → P x y → F x → S y)
+    → MatchOption r M S
+map_then None None S is n none some = none n
+map_then None (Some y) S is n none some = cc
+map_then (Some x) None S is f none some = absurd is
+map_then (Some x) (Some y) S is f none some = some x y is f

@@ -34,8 +34,11 @@ impl TraceJob {
             × ((k : ℕ) → k < p.0 → greatest (happened self.now) (at v.now) k (length (happened self.now)) ≤ at v.now k)) }
     {
         let most = self.greatest(v);
-        (0..self.trace.processes())
-            .find(|i| v.heights()[*i] < most.entries[*i])
+        let n = self.trace.processes();
+        v.heights()[..n]
+            .iter()
+            .zip(&most.entries)
+            .position(|(height, entry)| height < entry)
             .map(|i| (i, most.entries[i]))
     }
 

@@ -41,8 +41,9 @@ impl TraceJob {
             ((i : ℕ) → i < processes self.now → unwanted (happened self.now) self.now.wish self.now.watch (at v.now) i ≡ false)
             (λ i. LowestUnwanted (processes self.now) (happened self.now) self.now.wish self.now.watch (at v.now) i) }
     {
-        let heights = v.heights();
-        (0..self.trace.processes()).find(|i| self.watches(*i) && !self.is_wanted(*i, heights[*i]))
+        let n = self.trace.processes();
+        v.heights()[..n].iter().enumerate().position(|(i, &height)| self.watches(i)
+            && !self.is_wanted(i, height))
     }
 
     // The reply to a vector within the events.
