@@ -50,8 +50,8 @@ impl TraceJob {
     fn tally(&self, side: Side, height: u32) -> u32
         ensures { result ≡ tallied (happened self.now) side height }
     {
-        (0..height)
-            .filter(|before| self.is_on(side, *before + 1))
+        (1..=height)
+            .filter(|number| self.is_on(side, *number))
             .count() as u32
     }
 

@@ -15,8 +15,9 @@ impl TraceJob {
     {
         // Not a fold: `merge` changes one clock in place, and a fold would pass it by value at each step.
         let mut most = Clock::zero();
-        for i in 0..self.trace.processes() {
-            let last = self.trace.nth(i, v.heights()[i]);
+        let n = self.trace.processes();
+        for (i, &height) in v.heights()[..n].iter().enumerate() {
+            let last = self.trace.nth(i, height);
             if let Some(clock) = last.and_then(|place| self.trace.clock(place)) {
                 most.merge(&clock);
             }
