@@ -3,7 +3,7 @@ use Rattle.std.proofs.Common.{◌≡◌, ℕ, ◌<◌, ◌≤◌, Bool, false, L
 use Rattle.std.specs.Option.{IsSomeAnd}
 use Rattle.trace.specs.declared.event.Event.{Event}
 use Rattle.trace.specs.Events.{by, number, total, nth, event as event_at}
-use Rattle.cuts.specs.Cutting.{Nth, nth_is, nth_there}
+use Rattle.cuts.specs.Cutting.{nth_is}
 
 -- what each case of an option gives, made weaker
 pub match_then : {A : Type 0} (o : Option A) {P R : Type 0} {Q S : A → Type 0} → MatchOption o P Q → (P → R) → ((x : A) → Q x → S x) → MatchOption o R S
@@ -20,13 +20,13 @@ found es test is (Some p) (Some e) r f at on stands judged none there = judged e
 
 -- the event of a process with a number
 pub looked_up : (es : List Event) (i h : ℕ) (place : Option ℕ) (event : Option Event) {P : ℕ → Type 0} → MatchOption place (1 ≤ h → h ≤ total es i → ⊥) (λ e. (e < length es) × (by es e ≡ i) × (number es e ≡ h)) → MatchOption place (event ≡ None) P
-    → ((p : ℕ) → P p → MatchOption event (length es ≤ p) (λ e. (p < length es) × (e ≡ event_at es p))) → MatchOption event (1 ≤ h → h ≤ total es i → ⊥) (λ e. Nth es i h × (e ≡ event_at es (nth es i h)))
+    → ((p : ℕ) → P p → MatchOption event (length es ≤ p) (λ e. (p < length es) × (e ≡ event_at es p))) → MatchOption event (1 ≤ h → h ≤ total es i → ⊥) (λ e. (nth es i h < length es) × (e ≡ event_at es (nth es i h)))
 looked_up es i h None None n _ _ = n
 looked_up es i h None (Some e) n out _ = cc
 looked_up es i h (Some p) None f at stands = absurd (omega (arith, stands p at, f.0))
 looked_up es i h (Some p) (Some e) f at stands =
     let is : nth es i h ≡ p = nth_is es i h p f.0 f.1 f.2 in
-    (nth_there es i h (omega (arith, f.0)), (stands p at).1 ∙ ap (event_at es) (sym is))
+    (omega (arith, f.0), (stands p at).1 ∙ ap (event_at es) (sym is))
 
 -- the same of an event that was looked up in one call
 pub tested : (test : Event → Bool) (is : Bool) (event : Option Event) (r : Bool) {N : Type 0} {P Q : Event → Type 0} → MatchOption event N P → MatchOption event (r ≡ false) Q → ((e : Event) → Q e → r ≡ test e) → (N → is ≡ false)

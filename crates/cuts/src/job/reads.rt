@@ -1,6 +1,5 @@
-ghost use Rattle.std.specs.Prelude.{◌≡◌, ◌≤◌, MatchOption};
+ghost use Rattle.std.specs.Prelude.{◌≡◌, ◌<◌, ◌≤◌, length, MatchOption};
 ghost use Rattle.trace.specs.Events.{event, total, nth};
-ghost use Rattle.cuts.specs.Cutting.{Nth};
 ghost use Rattle.cuts.specs.Jobs.{happened, listed};
 
 use crate::channel::Channel;
@@ -39,7 +38,7 @@ impl TraceJob {
     pub(crate) fn nth_event(&self, process: usize, number: u32) -> Option<Event>
         ensures { MatchOption result
             (1 ≤ number → number ≤ total (happened self.now) process → ⊥)
-            (λ e. Nth (happened self.now) process number × (e ≡ event (happened self.now) (nth (happened self.now) process number))) }
+            (λ e. (nth (happened self.now) process number < length (happened self.now)) × (e ≡ event (happened self.now) (nth (happened self.now) process number))) }
     {
         self.trace
             .nth(process, number)
