@@ -21,15 +21,15 @@ module _ (es : List Event) (test : Action → Bool) (i : ℕ) where
   counted h = tally es test i h
 
   -- those among the next n are what is counted more
-  pub tally_range : (n a : ℕ) → counted (a + n) ≡ counted a + length (filter (λ k. on (k + 1)) (range_with_len a n))
+  pub tally_range : (n a : ℕ) → counted (a + n) ≡ counted a + length (filter on (range_with_len (a + 1) n))
   tally_range zero a = let e : a + 0 ≡ a = omega arith in omega (arith, ap counted e)
   tally_range (suc n) a =
       let e : a + suc n ≡ a + 1 + n = omega arith in
       let later = tally_range n (a + 1) in
-      let rest = filter (λ k. on (k + 1)) (range_with_len (a + 1) n) in
+      let rest = filter on (range_with_len (a + 1 + 1) n) in
       ⊎_elim
-      (λ y. omega (arith, ap counted e, later, tally_on es test i a y, ap length (cond-true (on (a + 1)) (a ∷ rest) rest y)))
-      (λ y. omega (arith, ap counted e, later, tally_off es test i a y, ap length (cond-false (on (a + 1)) (a ∷ rest) rest y)))
+      (λ y. omega (arith, ap counted e, later, tally_on es test i a y, ap length (cond-true (on (a + 1)) ((a + 1) ∷ rest) rest y)))
+      (λ y. omega (arith, ap counted e, later, tally_off es test i a y, ap length (cond-false (on (a + 1)) ((a + 1) ∷ rest) rest y)))
       (cases_Bool (on (a + 1)))
 
   -- the height q, at most the end, is the least at which the count is reached

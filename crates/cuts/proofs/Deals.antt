@@ -4,13 +4,13 @@ use lib.ListN.{get_or-eq_default}
 use Rattle.std.proofs.lemmas.Bool.{cases_lt, le-ltb, lt-ltb, and_left}
 use Rattle.trace.specs.declared.event.Event.{Event}
 use Rattle.trace.specs.declared.event.Action.TheVariants.{Local}
-use Rattle.trace.specs.Events.{by, does, number, total, nth, source, Sending}
+use Rattle.trace.specs.Events.{by, does, total, nth, source, Sending}
 use Rattle.trace.proofs.Sources.{sender}
 use Rattle.cuts.specs.declared.channel.Side.{Side}
 use Rattle.cuts.specs.declared.channel.Way.{Way}
 use Rattle.cuts.specs.declared.channel.Way.TheVariants.{To, From}
 use Rattle.cuts.specs.Sides.{asked, asks, sent_from}
-use Rattle.cuts.specs.Cutting.{nth_is, nth_there, nth_low, nth_high}
+use Rattle.cuts.specs.Cutting.{nth_there, nth_low, nth_high}
 
 -- what nobody sent is from nobody
 pub from_nobody : (es : List Event) (m p : ℕ) → ((s : Sending es) → s.message ≡ m → ⊥) → sent_from es m p ≡ false
@@ -26,11 +26,7 @@ asked_local : (es : List Event) (w : Way) (p : ℕ) → asked es w p Local ≡ f
 asked_local es To p = refl
 asked_local es From p = refl
 
--- the event with this number, at its place in file order
-pub asks_at : (es : List Event) (s : Side) (h e : ℕ) → e < length es → by es e ≡ s.place → number es e ≡ h → asks es s (does es (nth es s.place h)) ≡ asks es s (does es e)
-asks_at es s h e lt of is = ap (λ (x : ℕ). asks es s (does es x)) (nth_is es s.place h e lt of is)
-
--- where there is none, nothing is on the side
+-- where there is no event with this number, nothing is on the side
 pub asks_past : (es : List Event) (s : Side) (h : ℕ) → (1 ≤ h → h ≤ total es s.place → ⊥) → asks es s (does es (nth es s.place h)) ≡ false
 asks_past es s h none =
     let out : length es ≤ nth es s.place h =

@@ -1,6 +1,7 @@
 pub mod Counting
 pub mod Deals
 pub mod Found
+pub mod Inclusive
 pub mod Levelling
 pub mod Mapped
 pub mod Merging

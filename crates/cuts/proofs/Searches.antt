@@ -1,27 +1,47 @@
--- A search over a range of numbers finds what the walk over them finds. Assumes nothing.
-use Rattle.std.proofs.Common.{◌≡◌, ℕ, zero, suc, ◌+◌, ◌-◌, ◌<◌, ◌≤◌, Bool, true, false, ◌||◌, cond, nat_lt, List, length, get_or, map, None, Some, Option, MatchOption, refl, sym, ap, ◌∙◌, subst, ⊎_elim, arith, add-one}
-use Rattle.std.specs.List.{range_with_len, list_any, AllWithin, HoldsAt}
-use Rattle.std.proofs.lemmas.Bool.{cases_Bool, lt-ltb, le-ltb}
-use Rattle.std.proofs.lemmas.List.FromFn.{length-map-range_with_len, get_or-map-range_with_len}
-use Rattle.lattice.specs.First.{walk, some}
+-- What a search of a list finds, by the places of its items. Assumes nothing.
+use Rattle.std.proofs.Common.{◌≡◌, ℕ, ◌+◌, ◌-◌, ◌<◌, ◌≤◌, Bool, true, false, List, length, get_or, map, take, None, Some, Option, MatchOption, MatchBool, refl, sym, ap, ◌∙◌, subst, arith}
+use Rattle.std.specs.List.{range_with_len, enumerate_from, zip, AllWithin, HoldsAt}
+use Rattle.std.proofs.lemmas.Slice.Zip.{length-zip, get_or-zip}
+use Rattle.std.proofs.lemmas.List.FromFn.{length-map-range_with_len, get_or-map-range_with_len, length-enumerate_from, get_or-enumerate_from}
+use Rattle.std.proofs.lemmas.List.{length-take-le, get_or-take, get_or_default}
+use Rattle.lattice.specs.First.{some}
+use Rattle.lattice.proofs.First.{some_true, some_false}
 
-any_walk : (test : ℕ → Bool) (n a : ℕ) → list_any test (range_with_len a n) ≡ nat_lt (walk test n a) (a + n)
-any_walk test zero a = sym (le-ltb a (a + 0) (omega arith))
-any_walk test (suc n) a =
-    let end : suc a + n ≡ a + suc n = omega arith in
-    let later : list_any test (range_with_len (a + 1) n) ≡ nat_lt (walk test n (suc a)) (suc a + n) = rw (add-one a) (any_walk test n (suc a)) in
-    ⊎_elim
-    (λ e. ap (λ b. b || list_any test (range_with_len (a + 1) n)) e ∙ sym (ap (λ b. nat_lt (cond b a (walk test n (suc a))) (a + suc n)) e ∙ lt-ltb a (a + suc n) (omega arith)))
-    (λ e.
-    ap (λ b. b || list_any test (range_with_len (a + 1) n)) e ∙ later ∙ ap (λ (m : ℕ). nat_lt (walk test n (suc a)) m) end
-    ∙ sym (ap (λ b. nat_lt (cond b a (walk test n (suc a))) (a + suc n)) e))
-    (cases_Bool (test a))
+-- a search by place of a list whose items are known by their places
+module _ {X : Type 0} (n : ℕ) (all : List X) (item : ℕ → X) (long : length all ≡ n) (reads : (k : ℕ) → k < n → get_or all k (item k) ≡ item k) where
+  -- whether some item passes
+  pub any_item : (test : X → Bool) (r : Bool)
+      → MatchBool r ((k : ℕ) × (k < length all) × HoldsAt (λ x. test x ≡ true) all k) (AllWithin (λ x. test x ≡ false) all 0 (length all))
+      → r ≡ some (λ k. test (item k)) n
+  any_item test true f =
+      let lt : f.0 < n = omega (arith, f.1) in
+      sym (some_true (λ k. test (item k)) n f.0 lt (subst (λ (x : X). test x ≡ true) (reads f.0 lt) (f.2 (item f.0))))
+  any_item test false none =
+      sym (some_false (λ k. test (item k)) n (λ k lt. subst (λ (x : X). test x ≡ false) (reads k lt) (none k (item k) (omega arith) (omega arith))))
 
-pub any_some : (test : ℕ → Bool) (n : ℕ) → list_any test (range_with_len 0 n) ≡ some test n
-any_some test n =
-    let end : 0 + n ≡ n = omega arith in
-    let count : n ≡ n - 0 = omega arith in
-    any_walk test n 0 ∙ ap (λ (m : ℕ). nat_lt (walk test n 0) m) end ∙ ap (λ (m : ℕ). nat_lt (walk test m 0) n) count
+  -- the place of the first that does
+  pub first_item : (Yes No : X → Type 0) (r : Option ℕ)
+      → MatchOption r (AllWithin No all 0 (length all)) (λ i. (i < length all) × HoldsAt Yes all i × AllWithin No all 0 i)
+      → MatchOption r ((k : ℕ) → k < n → No (item k)) (λ i. (i < n) × Yes (item i) × ((k : ℕ) → k < i → No (item k)))
+  first_item Yes No None none = λ k lt. subst No (reads k lt) (none k (item k) (omega arith) (omega arith))
+  first_item Yes No (Some i) f =
+      let here : i < n = omega (arith, f.0) in
+      (here, subst Yes (reads i here) (f.1 (item i)), λ k lt. subst No (reads k (omega arith)) (f.2 k (item k) (omega arith) lt))
+
+-- the first heights of a vector, each with its place
+module _ (n : ℕ) (hs : List ℕ) (fits : n ≤ length hs) where
+  abbrev pub numbered : List (ℕ × ℕ)
+  numbered = enumerate_from 0 (take n hs)
+
+  pub length_numbered : length numbered ≡ n
+  length_numbered = length-enumerate_from 0 (take n hs) ∙ length-take-le n hs fits
+
+  pub get_numbered : (k : ℕ) → k < n → get_or numbered k (k, get_or hs k 0) ≡ (k, get_or hs k 0)
+  get_numbered k lt =
+      let from : 0 + k ≡ k = omega arith in
+      get_or-enumerate_from 0 (take n hs) k (k, get_or hs k 0) (omega (arith, length-take-le n hs fits))
+      ∙ ap (λ (x : ℕ). (x, get_or (take n hs) k (get_or hs k 0))) from
+      ∙ ap (λ (x : ℕ). (k, x)) (get_or-take n hs k (get_or hs k 0) lt ∙ get_or_default hs k (get_or hs k 0) 0 (omega arith))
 
 -- the numbers one above those of a range
 abbrev pub above : ℕ → ℕ → List ℕ
@@ -50,3 +70,17 @@ first_above test a n (Some x) f =
     let lt : k < n = omega (arith, f.2, length_above a n) in
     let is : x ≡ a + k + 1 = sym (f.3 0) ∙ at_above a n k lt in
     (omega arith, omega arith, f.0, λ q low high. passed_over test a n k q low (omega arith) (omega arith) f.4)
+
+-- the first heights of a vector, each with the entry at its place
+module _ (n : ℕ) (hs entries : List ℕ) (fits : n ≤ length hs) (fit : n ≤ length entries) where
+  abbrev pub beside : List (ℕ × ℕ)
+  beside = zip (take n hs) entries
+
+  pub length_beside : length beside ≡ n
+  length_beside = omega (arith, length-zip (take n hs) entries, length-take-le n hs fits)
+
+  pub get_beside : (k : ℕ) → k < n → get_or beside k (get_or hs k 0, get_or entries k 0) ≡ (get_or hs k 0, get_or entries k 0)
+  get_beside k lt =
+      get_or-zip (take n hs) entries k (get_or hs k 0, get_or entries k 0) (omega (arith, length-take-le n hs fits)) (omega arith)
+      ∙ ap (λ (x : ℕ). (x, get_or entries k (get_or entries k 0))) (get_or-take n hs k (get_or hs k 0) lt ∙ get_or_default hs k (get_or hs k 0) 0 (omega arith))
+      ∙ ap (λ (x : ℕ). (get_or hs k 0, x)) (get_or_default entries k (get_or entries k 0) 0 (omega arith))

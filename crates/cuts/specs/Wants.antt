@@ -44,7 +44,7 @@ unwanted_state es wish i h none = ⊎_elim (λ e. absurd (none (state_is_wanted 
 pub state_none : (es : List Event) (wish : Wish) (i h : ℕ) → (1 ≤ h → h ≤ total es i → ⊥) → state_wanted es wish i h ≡ false
 state_none es wish i h none = unwanted_state es wish i h (λ w. none w.started (wanted_high es wish i h w))
 
--- a loop over the heights above h finds the least wanted one
+-- a search of the heights above h, from the lowest up, finds the least wanted one
 pub next_found : (es : List Event) (wish : Wish) (i h q : ℕ) → h < q → q ≤ total es i → ((k : ℕ) → h + 1 ≤ k → k < q → state_wanted es wish i k ≡ false) → state_wanted es wish i q ≡ true
     → next_wanted_state es wish i (h + 1) ≡ q
 next_found es wish i h q low high before here = first_is (state_wanted es wish i) (h + 1) (total es i + 1) q (record { low = omega arith; high = omega arith; passes = λ _. here; before = before })

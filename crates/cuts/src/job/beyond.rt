@@ -13,7 +13,11 @@ impl TraceJob {
     fn is_beyond(&self, v: &Vector) -> bool
         ensures { result ≡ beyond (processes self.now) (happened self.now) (at v.now) }
     {
-        (0..self.trace.processes()).any(|i| v.heights()[i] > self.trace.total(i))
+        let n = self.trace.processes();
+        v.heights()[..n]
+            .iter()
+            .enumerate()
+            .any(|(i, &height)| height > self.trace.total(i))
     }
 
     // The reply of a condition that holds on no vector beyond the events: "never" there, and else what it finds.

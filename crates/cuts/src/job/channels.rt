@@ -21,9 +21,7 @@ impl TraceJob {
     fn is_on(&self, side: Side, number: u32) -> bool
         ensures { result ≡ asks (happened self.now) side (does (happened self.now) (nth (happened self.now) side.place number)) }
     {
-        self.trace
-            .nth(side.place, number)
-            .and_then(|place| self.trace.event(place))
+        self.nth_event(side.place, number)
             .is_some_and(|event| self.deals(side, event.action))
     }
 
@@ -52,8 +50,8 @@ impl TraceJob {
     fn tally(&self, side: Side, height: u32) -> u32
         ensures { result ≡ tallied (happened self.now) side height }
     {
-        (0..height)
-            .filter(|before| self.is_on(side, *before + 1))
+        (1..=height)
+            .filter(|number| self.is_on(side, *number))
             .count() as u32
     }
 

@@ -15,8 +15,9 @@ impl TraceJob {
     {
         // Not a fold: `merge` changes one clock in place, and a fold would pass it by value at each step.
         let mut most = Clock::zero();
-        for i in 0..self.trace.processes() {
-            let last = self.trace.nth(i, v.heights()[i]);
+        let n = self.trace.processes();
+        for (i, &height) in v.heights()[..n].iter().enumerate() {
+            let last = self.trace.nth(i, height);
             if let Some(clock) = last.and_then(|place| self.trace.clock(place)) {
                 most.merge(&clock);
             }
@@ -34,8 +35,11 @@ impl TraceJob {
             × ((k : ℕ) → k < p.0 → greatest (happened self.now) (at v.now) k (length (happened self.now)) ≤ at v.now k)) }
     {
         let most = self.greatest(v);
-        (0..self.trace.processes())
-            .find(|i| v.heights()[*i] < most.entries[*i])
+        let n = self.trace.processes();
+        v.heights()[..n]
+            .iter()
+            .zip(&most.entries)
+            .position(|(height, entry)| height < entry)
             .map(|i| (i, most.entries[i]))
     }
 

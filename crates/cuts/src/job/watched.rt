@@ -22,9 +22,7 @@ impl TraceJob {
     fn is_wanted(&self, process: usize, height: u32) -> bool
         ensures { result ≡ state_wanted (happened self.now) self.now.wish process height }
     {
-        self.trace
-            .nth(process, height)
-            .and_then(|place| self.trace.event(place))
+        self.nth_event(process, height)
             .is_some_and(|event| self.wish.marks(&event.payload))
     }
 
@@ -43,8 +41,9 @@ impl TraceJob {
             ((i : ℕ) → i < processes self.now → unwanted (happened self.now) self.now.wish self.now.watch (at v.now) i ≡ false)
             (λ i. LowestUnwanted (processes self.now) (happened self.now) self.now.wish self.now.watch (at v.now) i) }
     {
-        let heights = v.heights();
-        (0..self.trace.processes()).find(|i| self.watches(*i) && !self.is_wanted(*i, heights[*i]))
+        let n = self.trace.processes();
+        v.heights()[..n].iter().enumerate().position(|(i, &height)| self.watches(i)
+            && !self.is_wanted(i, height))
     }
 
     // The reply to a vector within the events.

@@ -1,4 +1,5 @@
-use Rattle.std.proofs.Common.{◌≡◌, ℕ, ◌+◌, None, get_or, MatchOption, sym, ap, ◌∙◌, subst, arith, rules}
+use Rattle.std.proofs.Common.{◌≡◌, ℕ, ◌+◌, ◌<◌, take, None, get_or, MatchOption, sym, ap, ◌∙◌, subst, arith, rules}
+use Rattle.std.proofs.lemmas.List.{get_or-take}
 use Rattle.std.proofs.lemmas.Option.{MatchOption-at_some, MatchOption-at_none}
 use Rattle.lattice.specs.Order.{at}
 use Rattle.trace.specs.declared.clock.Clock.{Clock}
@@ -18,7 +19,10 @@ loop-i-preserved c =
     let es = happened j in
     let h = at c.args.v.now in
     let i = c.loop-i.i in
-    let height : get_or c.heights.result.now i 0 ≡ h i = ap (λ hs. get_or hs i 0) c.heights.ensures in
+    let n = c.processes-n.result in
+    let hs = c.heights.result.now in
+    let inside : i < n = search rules in
+    let height : get_or (take n hs) i 0 ≡ h i = get_or-take n hs i 0 inside ∙ ap (λ xs. get_or xs i 0) c.heights.ensures in
     let clock_found : MatchOption c.nth-last.result (c.and_then.result ≡ None) (λ (p : ℕ). ClockAt j.trace p c.and_then.result) =
     match_then c.nth-last.result c.and_then.ensures (λ none. none) (λ p at. search rules) in
     let step = merge_found j.trace h i c.loop-i.most.entries c.nth-last.result c.and_then.result (subst (λ (x : ℕ). NthAt j.trace i x c.nth-last.result) height c.nth-last.ensures) clock_found c.loop-i.invariant in
