@@ -7,7 +7,7 @@ use crate::order::{MOST, Order};
 mod calls;
 pub mod condition;
 
-// As many gates as vans, with the order of each.
+// As many gates as vans, with the order of each, in arrays with a count: gates are made without memory of their own, and copied.
 #[derive(Clone, Copy)]
 pub struct Gates {
     count: usize,

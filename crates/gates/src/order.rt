@@ -84,7 +84,7 @@ impl Order {
         &self.numbers[..self.count]
     }
 
-    // The position of a number.
+    // The position of a number, which is asked to be below the count: a type for it would be made anew at each step of a walk.
     pub(crate) fn rank(&self, x: usize) -> usize
         requires { x < self.now.count }
         ensures { result ≡ position self.now.count (λ p. slice_index self.now.numbers p) x }

@@ -91,7 +91,8 @@ pub(crate) fn wish(reader: &mut Reader<'_>, kind: Kind) -> Result<Wish, JobFault
     }
 }
 
-// How many channels there are: the only range of numbers in one byte, so it is tested here.
+// How many channels there are. Of the numbers in one byte only this one and a channel's sender have a range here, so each is
+// tested in place.
 pub(crate) fn channel_count(reader: &mut Reader<'_>) -> Result<u8, JobFault>
     ensures { Reads (λ v. Byte v × (v ≤ 8)) byte_of (FieldBroken 1 Byte byte_of (λ v. v ≤ 8)) (λ v. v) job_row reader.old result reader.new }
 {
@@ -101,7 +102,7 @@ pub(crate) fn channel_count(reader: &mut Reader<'_>) -> Result<u8, JobFault>
     few.then_some(count).ok_or(range)
 }
 
-// One channel: its sender, and then its receiver.
+// One channel: its sender, and then its receiver. Reader and job stand apart, being lent by different owners.
 fn channel(reader: &mut Reader<'_>, job: &mut TraceJob) -> Result<(), JobFault>
     requires { length (listed job.old) < 8 }
     ensures { MatchResult result (λ _. ChannelRead reader.old reader.new job.old job.new) (λ e. ChannelBroken (processes job.old) reader.old.total reader.old.rest.now (job_row e)) }

@@ -10,7 +10,7 @@ use wire::reader::Reader;
 use wire::record;
 use wire::record::RecordFault;
 
-// One row. The gates themselves know whether it is an order.
+// One row. The gates themselves know whether it is an order. Reader and gates stand apart, being lent by different owners.
 fn row(reader: &mut Reader<'_>, gates: &mut Gates, side: Side, i: usize) -> Result<(), RecordFault>
     requires { i < (sides gates.old).n }
     ensures { MatchResult result (λ _. RowRead side i reader.old reader.new gates.old gates.new) (λ e. RowBroken (sides gates.old).n reader.old.total reader.old.rest.now (record_row e)) }

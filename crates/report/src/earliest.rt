@@ -6,8 +6,8 @@ use jobfile::job::Job;
 use lattice::board::{Board, DECIDING};
 use refusal::Refusal;
 
-// Reads a file, searches for the earliest solution of its job, and writes the report into the memory. The job's own
-// memory serves every file; nothing is asked for here.
+// Reads a file, searches for the earliest solution of its job, and writes the report into the memory, which is the
+// caller's, and answers how long it is. The job's own memory serves every file; nothing is asked for here.
 pub fn earliest(file: &[u8], job: &mut Job, memory: &mut [u8]) -> Result<usize, Refusal>
     ensures { Answered file.now memory.old result memory.new job.new }
 {

@@ -84,6 +84,8 @@ impl Places<'_> {
         }
     }
 
+    // That a place is below 32 is asked here and where its height is read, as vectors ask it: a type for it would be made anew
+    // for each line.
     fn push_line(&self, place: usize, text: &mut Text)
         requires place { place < 32 }
         requires room { array_string_len text.old + 25 ≤ LONGEST }

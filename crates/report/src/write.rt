@@ -7,7 +7,8 @@ use jobfile::job::Job;
 use lattice::board::Board;
 use refusal::{Layer, Refusal, Rule};
 
-// Puts a text at the front of the memory, which is the caller's, and answers how long it is; a longer text is refused.
+// Puts a text at the front of the memory, which is the caller's, and answers how long the text is; one longer than the
+// memory is refused.
 fn place(text: &[u8], memory: &mut [u8]) -> Result<usize, Refusal>
     ensures { Placed memory.old text.now result memory.new }
 {

@@ -1,7 +1,7 @@
 use cuts::conditions::condition;
 use cuts::fault::JobFault;
 use cuts::job::TraceJob;
-use lattice::board::Board;
+use lattice::board::{Board, DECIDING};
 use lattice::verdict::Answer;
 use payload::kinds::ScanWish;
 use payload::wish::Wish;
@@ -23,7 +23,7 @@ fn record(job: &mut TraceJob, wish: u8, linked: bool) -> Result<(), JobFault> {
 // What a new board comes to, with its heights at places 0 and 1.
 fn search(job: &TraceJob) -> (Answer, u32, u32) {
     let mut board = Board::new();
-    let answer = board.run(&condition(job), 32_000_000);
+    let answer = board.run(&condition(job), DECIDING);
     let reading = board.read();
     let heights = reading.vector.heights();
     (answer, heights[0], heights[1])

@@ -21,7 +21,7 @@ impl Gates {
     }
 
     // Whether van j is a rival of van i at the gate g: one that has passed the gate still counts.
-    // That a number is below the count is asked where it is used: a type for it would be made anew at each step of a walk.
+    // That a number is below the count is asked where it is used, here and below: a type for it would be made anew at each step of a walk.
     fn rival(&self, v: &Vector, i: usize, g: usize, j: usize) -> bool
         requires { (i < self.now.count) × ((g < self.now.count) × (j < self.now.count)) }
         ensures { result ≡ is_rival (sides self.now) (at v.now) i g j }
