@@ -9,7 +9,7 @@ use Rattle.commands.specs.declared.command.Command.TheVariants as command
 use Rattle.commands.specs.Words.{words, Writes}
 use Rattle.commands.specs.Commands as says
 use Rattle.commands.specs.Commands.{Says, EachWrites, asked_word, most32, most64}
-use Rattle.commands.specs.Behind.{SayNone, Begin, Heights}
+use Rattle.commands.specs.Behind.{SayNone, Begin, Bound, NoBound, Heights}
 use Rattle.commands.proofs.Heights.{each_length}
 
 -- the names of the commands
@@ -35,19 +35,16 @@ name_word Probe = codes "probe"
 name_word Clocks = codes "clocks"
 name_word Report = codes "report"
 
--- the words are not one number, and not two
+-- the words are not one number
 abbrev NotOne : ℕ → List (List ℕ) → Type 0
 NotOne most ws = (a : List ℕ) (v : ℕ) → ws ≡ a ∷ [] → Writes a most v → ⊥
-
-abbrev NotTwo : List (List ℕ) → Type 0
-NotTwo ws = (a b : List ℕ) (p h : ℕ) → ws ≡ a ∷ b ∷ [] → Writes a most64 p → Writes b most32 h → ⊥
 
 -- the words do not fit behind the name
 abbrev pub Cannot : Name → List (List ℕ) → Type 0
 Cannot Job ws = (ws ≡ [] → ⊥) × ((a : List ℕ) → ws ≡ a ∷ [] → ⊥)
 Cannot New ws = ws ≡ [] → ⊥
-Cannot Floor ws = NotTwo ws
-Cannot Ceiling ws = NotTwo ws
+Cannot Floor ws = NoBound ws
+Cannot Ceiling ws = NoBound ws
 Cannot Run ws = NotOne most32 ws
 Cannot Read ws = ws ≡ [] → ⊥
 Cannot Probe ws = (c : Asked) (further : List (List ℕ)) (hs : List ℕ) → ws ≡ asked_word c ∷ further → EachWrites further hs → length hs ≤ 32 → ⊥
@@ -154,13 +151,12 @@ module _ (ws after : List (List ℕ)) {r : Option (Bor (List ℕ))} {name : Bor 
           h.full,
     )
 
-    module _ {last : List (List ℕ)} {b : List ℕ} (f : left ≡ b ∷ last) where
-      -- a command of two numbers
-      begins_two : (n : Name) (c : Command) → (NotTwo after → Cannot n after) → name.now ≡ name_word n → ((line : List ℕ) → words line ≡ name_word n ∷ a ∷ b ∷ [] → Says line c) → Begin ws c last
-      begins_two n c unfit is say = (λ end line of. say line (cc (of, first, is, e, f, end)), λ more. not_behind n is (unfit (λ a2 b2 p2 h2 m _ _. more (cc (e, f, m)))))
+  -- a command of a place and a height
+  begins_two : (n : Name) (c : Command) {p h : ℕ} {last : List (List ℕ)} → (NoBound after → Cannot n after) → name.now ≡ name_word n → (two : Bound after p h last) → ((line : List ℕ) → words line ≡ name_word n ∷ two.first ∷ two.second ∷ [] → Says line c) → Begin ws c last
+  begins_two n c unfit is two say = (λ end line of. say line (cc (of, first, is, two.are, end)), λ more. not_behind n is (unfit (λ a b p h m _ _. more (cc (two.are, m)))))
 
-      pub begins_floor : {p h : ℕ} → name.now ≡ codes "floor" → Writes a most64 p → Writes b most32 h → Begin ws (command.Floor p h) last
-      begins_floor is v w = begins_two Floor _ (λ x. x) is (λ line are. says.floor a b are v w)
+  pub begins_floor : {p h : ℕ} {last : List (List ℕ)} → name.now ≡ codes "floor" → Bound after p h last → Begin ws (command.Floor p h) last
+  begins_floor is two = begins_two Floor _ (λ x. x) is two (λ line are. says.floor two.first two.second are two.of_place two.of_height)
 
-      pub begins_ceiling : {p h : ℕ} → name.now ≡ codes "ceiling" → Writes a most64 p → Writes b most32 h → Begin ws (command.Ceiling p h) last
-      begins_ceiling is v w = begins_two Ceiling _ (λ x. x) is (λ line are. says.ceiling a b are v w)
+  pub begins_ceiling : {p h : ℕ} {last : List (List ℕ)} → name.now ≡ codes "ceiling" → Bound after p h last → Begin ws (command.Ceiling p h) last
+  begins_ceiling is two = begins_two Ceiling _ (λ x. x) is two (λ line are. says.ceiling two.first two.second are two.of_place two.of_height)

@@ -22,8 +22,14 @@ fn command<'a>(words: &mut Words<'a>) -> Result<Command<'a>, LineFault>
     match name {
         b"job" => Ok(Command::Job(words.next().unwrap_or(&[]))),
         b"new" => Ok(Command::New),
-        b"floor" => Ok(Command::Floor(words.number()?, words.number()?)),
-        b"ceiling" => Ok(Command::Ceiling(words.number()?, words.number()?)),
+        b"floor" => {
+            let (place, height) = words.bound()?;
+            Ok(Command::Floor(place, height))
+        }
+        b"ceiling" => {
+            let (place, height) = words.bound()?;
+            Ok(Command::Ceiling(place, height))
+        }
         b"run" => Ok(Command::Run(words.number()?)),
         b"read" => Ok(Command::Read),
         b"probe" => Ok(Command::Probe(Asked::try_from(words.word()?)?, words.heights()?)),

@@ -1,6 +1,6 @@
 // What stands behind the name of a command.
 ghost use Rattle.std.specs.Prelude.{◌≡◌, ◌≢◌, ◌∷◌, [], MatchResult};
-ghost use Rattle.commands.specs.Behind.{Number, NoNumber, Heights, NoHeights};
+ghost use Rattle.commands.specs.Behind.{Number, NoNumber, Bound, NoBound, Heights, NoHeights};
 
 use crate::command::LineFault;
 use crate::numbers::number;
@@ -24,6 +24,13 @@ impl<'a> Words<'a> {
     }
 
     // At most 32 heights, and 0 for each that is left out.
+    // A place and a height.
+    pub(crate) fn bound(&mut self) -> Result<(usize, u32), LineFault>
+        ensures { MatchResult result (λ b. Bound self.old b.0 b.1 self.new) (λ _. NoBound self.old) }
+    {
+        Ok((self.number()?, self.number()?))
+    }
+
     pub(crate) fn heights(&mut self) -> Result<[u32; 32], LineFault>
         ensures { MatchResult result (λ hs. Heights self.old hs self.new) (λ _. NoHeights self.old) }
     {

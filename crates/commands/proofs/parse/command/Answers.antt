@@ -1,4 +1,4 @@
-use Rattle.std.proofs.Common.{rules, [], ◌∷◌, codes, refl, arith}
+use Rattle.std.proofs.Common.{rules, [], codes, refl, arith}
 use Rattle.std.proofs.lemmas.Result.{MatchResult-from_err}
 use Rattle.std.proofs.lemmas.Slice.Eq.{text_from_reads}
 use Rattle.commands.specs.Commands.{most32, most64}
@@ -45,45 +45,15 @@ returns-in_ok-number-in-report c =
     let n = c.in_ok-number-in-report.ensures in
     begins_report _ _ c.next.ensures.steps c.in_ok-name.ensures.ok_part n.are is (writes 64 most64 refl n.word c.in_ok-number-in-report.field-0 n.digits n.value.0)
 
-pub returns-in_err-number-in-floor : goal.returns-in_err-number-in-floor
-returns-in_err-number-in-floor c =
+pub returns-in_ok-place-in-floor : goal.returns-in_ok-place-in-floor
+returns-in_ok-place-in-floor c =
     let is = text_from_reads c.in_ok-name.name.now (codes "floor") (omega arith) (search rules) in
-    MatchResult-from_err _ _ _ c.from_residual-in_err-number-in-floor.ensures.0
-    (λ _. not_behind _ _ c.next.ensures.steps c.in_ok-name.ensures.ok_part Floor is (λ a b p h are v _. writes_none 64 most64 refl a (λ digits. (c.in_err-number-in-floor.ensures a (b ∷ []) are digits).1.0) p v))
+    begins_floor _ _ c.next.ensures.steps c.in_ok-name.ensures.ok_part is c.in_ok-place-in-floor.ensures
 
-pub returns-in_err-number-in-floor-2 : goal.returns-in_err-number-in-floor-2
-returns-in_err-number-in-floor-2 c =
-    let is = text_from_reads c.in_ok-name.name.now (codes "floor") (omega arith) (search rules) in
-    let n = c.in_ok-number-in-floor.ensures in
-    MatchResult-from_err _ _ _ c.from_residual-in_err-number-in-floor-2.ensures.0
-    (λ _. not_behind _ _ c.next.ensures.steps c.in_ok-name.ensures.ok_part Floor is (λ a b p h are _ v. writes_none 32 most32 refl b (λ digits. (c.in_err-number-in-floor-2.ensures b [] (cc (n.are, are)) digits).1.0) h v))
-
-pub returns-in_ok-number-in-floor-2 : goal.returns-in_ok-number-in-floor-2
-returns-in_ok-number-in-floor-2 c =
-    let is = text_from_reads c.in_ok-name.name.now (codes "floor") (omega arith) (search rules) in
-    let n = c.in_ok-number-in-floor.ensures in
-    let m = c.in_ok-number-in-floor-2.ensures in
-    begins_floor _ _ c.next.ensures.steps c.in_ok-name.ensures.ok_part n.are m.are is (writes 64 most64 refl n.word c.in_ok-number-in-floor.field-0 n.digits n.value.0) (writes 32 most32 refl m.word c.in_ok-number-in-floor-2.field-0 m.digits m.value.0)
-
-pub returns-in_err-number-in-ceiling : goal.returns-in_err-number-in-ceiling
-returns-in_err-number-in-ceiling c =
+pub returns-in_ok-place-in-ceiling : goal.returns-in_ok-place-in-ceiling
+returns-in_ok-place-in-ceiling c =
     let is = text_from_reads c.in_ok-name.name.now (codes "ceiling") (omega arith) (search rules) in
-    MatchResult-from_err _ _ _ c.from_residual-in_err-number-in-ceiling.ensures.0
-    (λ _. not_behind _ _ c.next.ensures.steps c.in_ok-name.ensures.ok_part Ceiling is (λ a b p h are v _. writes_none 64 most64 refl a (λ digits. (c.in_err-number-in-ceiling.ensures a (b ∷ []) are digits).1.0) p v))
-
-pub returns-in_err-number-in-ceiling-2 : goal.returns-in_err-number-in-ceiling-2
-returns-in_err-number-in-ceiling-2 c =
-    let is = text_from_reads c.in_ok-name.name.now (codes "ceiling") (omega arith) (search rules) in
-    let n = c.in_ok-number-in-ceiling.ensures in
-    MatchResult-from_err _ _ _ c.from_residual-in_err-number-in-ceiling-2.ensures.0
-    (λ _. not_behind _ _ c.next.ensures.steps c.in_ok-name.ensures.ok_part Ceiling is (λ a b p h are _ v. writes_none 32 most32 refl b (λ digits. (c.in_err-number-in-ceiling-2.ensures b [] (cc (n.are, are)) digits).1.0) h v))
-
-pub returns-in_ok-number-in-ceiling-2 : goal.returns-in_ok-number-in-ceiling-2
-returns-in_ok-number-in-ceiling-2 c =
-    let is = text_from_reads c.in_ok-name.name.now (codes "ceiling") (omega arith) (search rules) in
-    let n = c.in_ok-number-in-ceiling.ensures in
-    let m = c.in_ok-number-in-ceiling-2.ensures in
-    begins_ceiling _ _ c.next.ensures.steps c.in_ok-name.ensures.ok_part n.are m.are is (writes 64 most64 refl n.word c.in_ok-number-in-ceiling.field-0 n.digits n.value.0) (writes 32 most32 refl m.word c.in_ok-number-in-ceiling-2.field-0 m.digits m.value.0)
+    begins_ceiling _ _ c.next.ensures.steps c.in_ok-name.ensures.ok_part is c.in_ok-place-in-ceiling.ensures
 
 pub returns-in_ok-heights-in-probe : goal.returns-in_ok-heights-in-probe
 returns-in_ok-heights-in-probe c =
