@@ -1,5 +1,5 @@
 -- What std reads in a word of digits alone. Assumes nothing.
-use Rattle.std.proofs.Common.{◌≡◌, ℕ, suc, ◌^◌, true, ◌&&◌, Some, None, Result, Ok, Err, List, [], ◌∷◌, MatchOption, MatchResult, Bor, refl, ap, ◌∙◌, sym, arith, rules}
+use Rattle.std.proofs.Common.{◌≡◌, ℕ, suc, ◌^◌, true, ◌&&◌, Result, Ok, Err, List, [], ◌∷◌, MatchOption, refl, ap, arith, rules}
 use Rattle.std.specs.List.{list_all}
 use Rattle.std.specs.Result.{result_ok}
 use Rattle.std.specs.Str.{IsUtf8}
@@ -16,18 +16,8 @@ pub each_digit : (word : List ℕ) → list_all is_digit word ≡ all_digits wor
 each_digit [] = refl
 each_digit (b ∷ word) = ap (λ t. is_digit b && t) (each_digit word)
 
-text : (word : List ℕ) → all_digits word ≡ true → IsUtf8 word
+pub text : (word : List ℕ) → all_digits word ≡ true → IsUtf8 word
 text word digits = IsUtf8-from_ascii word (IsAscii-from_digits word (own.to word digits))
-
--- the text that `from_utf8` found, and what it parses as
-module _ (word : List ℕ) {E : Type 0} (P : E → Type 0) where
-  pub same_text : (r : Result (Bor (List ℕ)) E) (x : Bor (List ℕ)) → MatchResult r (λ s. (s.now ≡ word) × IsUtf8 word) (λ e. ¬ (IsUtf8 word) × P e) → result_ok r ≡ Some x → x.now ≡ word
-  same_text (Ok s) x found is = let e : s ≡ x = cc is in ap (λ t. t.now) (sym e) ∙ found.0
-  same_text (Err e) x found is = absurd (cc is)
-
-  pub no_text : (r : Result (Bor (List ℕ)) E) → MatchResult r (λ s. (s.now ≡ word) × IsUtf8 word) (λ e. ¬ (IsUtf8 word) × P e) → result_ok r ≡ None → all_digits word ≡ true → ⊥
-  no_text (Ok s) found is digits = absurd (cc is)
-  no_text (Err e) found is digits = found.0 (text word digits)
 
 pub read : {T E : Type 0} (word : List ℕ) (gives : Result T E → Type 0) (r : Result T E) → gives r → all_digits word ≡ true → MatchOption (result_ok r) (all_digits word ≡ true → (e : E) × gives (Err e)) (λ v. (all_digits word ≡ true) × gives (Ok v))
 read word gives (Ok v) g digits = (digits, g)

@@ -12,6 +12,11 @@ use Rattle.cuts.specs.Tallies.{tally_on, tally_off, tally_mono, Short}
 use Rattle.cuts.proofs.Found.{match_then}
 use Rattle.cuts.proofs.Searches.{above}
 
+-- the numbers above a, as a range from the next one on
+pub above_range : (n a : ℕ) → above a n ≡ range_with_len (a + 1) n
+above_range zero a = refl
+above_range (suc n) a = ap (λ (xs : List ℕ). (a + 1) ∷ xs) (above_range n (a + 1))
+
 module _ (es : List Event) (test : Action → Bool) (i : ℕ) where
   -- whether the event with this number does what is asked
   abbrev on : ℕ → Bool

@@ -1,2 +1,3 @@
+mod owner;
 mod placing;
 mod recording;

@@ -4,6 +4,8 @@ pub mod board;
 pub mod call;
 pub mod condition;
 pub mod laws;
+pub mod lends;
+pub mod lent;
 pub mod pair;
 pub mod play;
 mod refuse;

@@ -40,14 +40,23 @@ pub enum Answer {
     None,
 }
 
+impl Answer {
+    // The word for the answer, for texts that may not fail.
+    pub fn word(self) -> &'static str
+        ensures { result.now ≡ answer_word self }
+    {
+        match self {
+            Answer::Pending => "pending",
+            Answer::Found => "found",
+            Answer::None => "none",
+        }
+    }
+}
+
 impl fmt::Display for Answer {
     ghost output = { λ answer. Some (answer_word answer) };
 
     fn fmt<W: fmt::Write>(&self, f: &mut fmt::Formatter<W>) -> fmt::Result {
-        f.write_str(match self {
-            Answer::Pending => "pending",
-            Answer::Found => "found",
-            Answer::None => "none",
-        })
+        f.write_str(self.word())
     }
 }

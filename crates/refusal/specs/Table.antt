@@ -1,5 +1,5 @@
 -- The table of refusals: the number of each rule, and how a refusal reads. Assumes nothing.
-use Rattle.std.specs.Prelude.{ℕ, List, ◌++◌, codes, decimal}
+use Rattle.std.specs.Prelude.{◌≡◌, ℕ, ◌<◌, ◌⊎◌, List, ◌++◌, codes, decimal}
 use Rattle.refusal.specs.declared.Rule.{Rule}
 use Rattle.refusal.specs.declared.Rule.TheVariants as rule
 use Rattle.refusal.specs.declared.Layer.{Layer}
@@ -21,6 +21,11 @@ number_of rule.Behind = 11
 number_of rule.Room = 12
 number_of rule.Place = 13
 number_of rule.Height = 14
+number_of (rule.Other number) = number
+
+-- a rule with a number: the one of its row where the table has a row for it
+abbrev pub IsRuleOf : ℕ → Rule → Type 0
+IsRuleOf number broken = (number_of broken ≡ number) × ((n : ℕ) → broken ≡ rule.Other n → (n ≡ 0) ⊎ (14 < n))
 
 abbrev pub layer_word : Layer → List ℕ
 layer_word layer.Frame = codes "frame"

@@ -1,5 +1,5 @@
-use crate::answers::{Fault, Response};
-use arrayvec::ArrayVec;
+use crate::answers::Response;
+use crate::fault::Fault;
 use commands::command::{Asked, Command};
 use commands::hex::decode;
 use commands::parse::parse;
@@ -7,7 +7,6 @@ use jobfile::job::Job;
 use lattice::board::Board;
 use lattice::condition::{Condition, Reply};
 use lattice::vector::Vector;
-use report::lines::LONGEST;
 use report::write::write_report;
 use std::alloc::{AllocError, Global};
 
@@ -30,8 +29,12 @@ impl Session {
         })
     }
 
-    // Does what a line says.
-    pub fn answer(&mut self, line: &[u8]) -> Result<Response<'_>, Fault> {
+    // Does what a line says. A report is put into the memory.
+    pub fn answer<'a>(
+        &'a mut self,
+        line: &[u8],
+        memory: &'a mut [u8],
+    ) -> Result<Response<'a>, Fault> {
         match parse(line)? {
             Command::Job(word) => self.read_job(word),
             Command::New => {
@@ -54,7 +57,7 @@ impl Session {
                 let vector = Vector::new(heights).map_err(|_| Fault::Height)?;
                 Ok(Response::Replied(self.reply(asked, &vector)))
             }
-            Command::Report(size) => self.report(size),
+            Command::Report(size) => self.report(size, memory),
             Command::Clocks => Ok(Response::Clocks(self.job.trace_part().trace())),
         }
     }
@@ -79,12 +82,10 @@ impl Session {
         }
     }
 
-    // The report in so much memory.
-    fn report(&self, size: usize) -> Result<Response<'static>, Fault> {
-        let mut memory = ArrayVec::from([0; LONGEST]);
-        memory.truncate(size);
-        let len = write_report(&self.job, &self.board, &mut memory)?;
-        memory.truncate(len);
-        Ok(Response::Reported(memory))
+    // The report in so much of the memory.
+    fn report<'a>(&self, size: usize, memory: &'a mut [u8]) -> Result<Response<'a>, Fault> {
+        let room = size.min(memory.len());
+        let len = write_report(&self.job, &self.board, &mut memory[..room])?;
+        Ok(Response::Reported(&memory[..len.min(room)]))
     }
 }

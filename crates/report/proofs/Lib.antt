@@ -1,4 +1,5 @@
 pub mod Fitting
+pub mod Lengths
 pub mod Subjects
 pub mod Showing
 pub mod Settling

@@ -8,7 +8,7 @@ use Rattle.lattice.specs.Order.{at}
 use Rattle.jobfile.specs.declared.job.Job.{Job}
 use Rattle.jobfile.specs.Forms.{Form, trace, gates, letter_of, size_of}
 use Rattle.jobfile.specs.Jobs.{letter_of_job, places_of, Held}
-use Rattle.report.specs.Lines.{first_line, place_line, place_lines, report_text, gate_shown, shown_by}
+use Rattle.report.specs.Lines.{first_line, place_line, place_lines, report_text, shown_by}
 use Rattle.report.specs.Earliest.{shown_of}
 
 -- the lines of the first places show what is shown of those alone

@@ -1,18 +1,17 @@
 -- The events of a trace with the tables that go with them. Assumes nothing.
-use Rattle.std.proofs.Common.{◌≡◌, ℕ, zero, suc, ◌-◌, ◌<◌, ◌≤◌, cond, eqb, List, [], ◌∷◌, ◌++◌, map, length, get_or, set, sym, refl, ap, ◌∙◌, subst, ⊎_elim, arith}
+use Rattle.std.proofs.Common.{◌≡◌, ℕ, zero, suc, ◌-◌, ◌<◌, ◌≤◌, cond, eqb, List, [], ◌∷◌, map, length, get_or, set, sym, refl, ap, ◌∙◌, subst, ⊎_elim, arith}
 use Rattle.std.specs.Global.{Vec}
-use Rattle.std.proofs.lemmas.List.{length-map, map_push, map-set, get_or-map, get_or-set_same, get_or-set_other}
+use Rattle.std.proofs.lemmas.List.{length-map, map-set, get_or-map, get_or-set_same, get_or-set_other}
 use Rattle.std.proofs.lemmas.Bool.{cases_lt, cases_eq, eq-eqb, ne_eqb, cond-true, cond-false}
 use Rattle.trace.specs.declared.clock.Clock.{Clock}
 use Rattle.trace.specs.declared.event.Event.{Event}
-use Rattle.trace.specs.declared.trace.Step.{Step}
 use Rattle.trace.specs.declared.trace.Ends.{Ends}
-use Rattle.trace.specs.Events.{most, event, by, number, total}
+use Rattle.trace.specs.Events.{most, by, number, total}
 use Rattle.trace.specs.Rules.{Valid}
 use Rattle.trace.specs.Clocks.{zeros, latest, mattern, clock}
-use Rattle.trace.specs.Tables.{recorded, rows, listed, Indexed, Tabled, KeepsRules}
+use Rattle.trace.specs.Tables.{rows, listed, Indexed, Tabled, KeepsRules}
 use Rattle.trace.proofs.Counts.{count_le, count_mono, count_here, number_is, number_total, numbered}
-use Rattle.trace.proofs.Clocks.{find_last}
+use Rattle.trace.proofs.Clocks.{find_last, length-clocks}
 use Rattle.trace.proofs.Sources.{keeps, valid_none}
 
 -- the items of the vector at a place
@@ -22,15 +21,15 @@ listed_at (v ∷ vs) zero xs h is = is v
 listed_at (v ∷ vs) (suc i) xs h is = listed_at vs i xs (omega arith) is
 
 -- no events
-pub keeps_none : (n : ℕ) (steps : List Step) → steps ≡ [] → KeepsRules n (recorded steps)
-keeps_none n steps none = subst (λ x. KeepsRules n (recorded x)) (sym none) (keeps n [] (valid_none n))
+pub keeps_none : (n : ℕ) (es : List Event) → es ≡ [] → KeepsRules n es
+keeps_none n es none = subst (KeepsRules n) (sym none) (keeps n [] (valid_none n))
 
-pub tabled_none : (steps : List Step) (places : List (Vec ℕ)) (messages : List Ends) → steps ≡ [] → length places ≡ most →
-    ((i : ℕ) (v : Vec ℕ) → i < most → (get_or places i v).items ≡ []) → Tabled (recorded steps) (listed places) messages
-tabled_none steps places messages none long empty =
-    let short : length (recorded steps) ≡ 0 = ap (λ x. length (recorded x)) none in
+pub tabled_none : (es : List Event) (places : List (Vec ℕ)) (messages : List Ends) → es ≡ [] → length places ≡ most →
+    ((i : ℕ) (v : Vec ℕ) → i < most → (get_or places i v).items ≡ []) → Tabled es (listed places) messages
+tabled_none es places messages none long empty =
+    let short : length es ≡ 0 = ap length none in
     record {
-      counted = λ i h. ap length (listed_at places i [] (omega arith) (λ v. empty i v h)) ∙ sym (ap (λ x. total (recorded x) i) none);
+      counted = λ i h. ap length (listed_at places i [] (omega arith) (λ v. empty i v h)) ∙ sym (ap (λ x. total x i) none);
       indexed = λ e h. absurd (omega arith);
       sent = λ e m h. absurd (omega arith);
       received = λ e m h. absurd (omega arith);
@@ -84,18 +83,12 @@ latest_none es cs i none =
     (λ l. l.is)
     (find_last es cs i (length es))
 
--- what is read from the steps
-pub length_recorded : (steps : List Step) → length (recorded steps) ≡ length steps
-length_recorded steps = length-map steps (λ s. s.event)
+-- what is read from the table of clocks
+pub clocks_long : (es : List Event) (cs : List Clock) → rows cs ≡ mattern es (length es) → length cs ≡ length es
+clocks_long es cs table = sym (length-map cs (λ c. c.entries)) ∙ ap length table ∙ length-clocks es (length es)
 
-pub recorded_push : (steps steps' : List Step) (s : Step) → steps' ≡ steps ++ s ∷ [] → recorded steps' ≡ recorded steps ++ s.event ∷ []
-recorded_push steps steps' s is = ap recorded is ∙ map_push (λ x. x.event) steps s
-
-pub clock_read : (steps : List Step) (e : ℕ) (k : Clock) → rows steps ≡ mattern (recorded steps) (length (recorded steps)) → e < length steps → ((d : Step) → k ≡ (get_or steps e d).clock) →
-    k.entries ≡ clock (recorded steps) e
-clock_read steps e k table h is =
-    let none : Step = record { event = event [] 0; clock = record { entries = zeros; sized = refl } } in
-    ap (λ x. x.entries) (is none) ∙ sym (get_or-map (λ x. x.clock.entries) steps e none zeros h) ∙ ap (λ t. get_or t e zeros) table
+pub clock_read : (es : List Event) (cs : List Clock) (e : ℕ) (k : Clock) → rows cs ≡ mattern es (length es) → e < length cs → k ≡ get_or cs e k → k.entries ≡ clock es e
+clock_read es cs e k table h is = ap (λ x. x.entries) is ∙ sym (get_or-map (λ x. x.entries) cs e k zeros h) ∙ ap (λ t. get_or t e zeros) table
 
 -- one field of the table of messages, where an entry is written
 pub noted : (f : Ends → ℕ) (messages : List Ends) (m : ℕ) (x : Ends) → m < length messages → (k : ℕ) → get_or (map f (set messages m x)) k 0 ≡ cond (eqb m k) (f x) (get_or (map f messages) k 0)

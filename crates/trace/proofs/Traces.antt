@@ -4,7 +4,6 @@ use Rattle.std.specs.Global.{Vec}
 use Rattle.std.proofs.lemmas.List.{length-map, get_or-map, get_or_past}
 use Rattle.std.proofs.lemmas.Bool.{cases_lt, both_ways, eq-eqb}
 use Rattle.trace.specs.declared.trace.Trace.{Trace}
-use Rattle.trace.specs.declared.trace.Step.{Step}
 use Rattle.trace.specs.declared.trace.Ends.{Ends}
 use Rattle.trace.specs.declared.clock.Clock.{Clock}
 use Rattle.trace.specs.declared.event.Event.{Event}
@@ -16,7 +15,7 @@ use Rattle.trace.specs.Clocks.{zeros, mattern, clock, Knows}
 use Rattle.trace.specs.Tables.{listed, receives, Finds}
 use Rattle.trace.specs.Growth.{events, last_clock, Refused, Pushed, ClockOf, ClockAt, NthAt, SenderAt, ReceiverAt}
 use Rattle.trace.proofs.Sources.{sends_is, sends_at, source_is, receives_is, valid_from}
-use Rattle.trace.proofs.Tables.{total_none, total_few, latest_at, latest_none, length_recorded, clock_read}
+use Rattle.trace.proofs.Tables.{total_none, total_few, latest_at, latest_none, clocks_long, clock_read}
 use Rattle.trace.proofs.Known.{clock_knows}
 use Rattle.trace.proofs.Grown.{refused_not}
 
@@ -41,13 +40,17 @@ counted_few t i = omega (arith, counted t i, total_few t.n (events t) (valid t) 
 pub room_left : (t : Trace) (p : ℕ) (v : Vec ℕ) → p < t.n → total (events t) p < 1024 → vec_len (get_or t.places p v) < vec_capacity (get_or t.places p v)
 room_left t p v own few =
     let h : p < length t.places = omega (arith, t.few, t.sized.0) in
-    omega (arith, t.room.1 p v h, (get_or t.places p v).ok.0, ap length (get_or-map (λ x. x.items) t.places p v [] h), counted t p)
+    omega (arith, t.room.2 p v h, (get_or t.places p v).ok.0, ap length (get_or-map (λ x. x.items) t.places p v [] h), counted t p)
+
+-- there is a clock for each event
+pub clocks_as_events : (t : Trace) → length t.clocks.items ≡ length (events t)
+clocks_as_events t = clocks_long (events t) t.clocks.items t.clocked
 
 -- a clock of an event, as a read has it
-pub clock_of : (t : Trace) (e : ℕ) (k : Clock) → e < length t.steps.items → ((d : Step) → k ≡ (get_or t.steps.items e d).clock) → ClockOf t e k
+pub clock_of : (t : Trace) (e : ℕ) (k : Clock) → e < length t.clocks.items → k ≡ get_or t.clocks.items e k → ClockOf t e k
 clock_of t e k h is =
-    let rule : k.entries ≡ clock (events t) e = clock_read t.steps.items e k t.clocked h is in
-    let within : e < length (events t) = omega (arith, length_recorded t.steps.items) in
+    let rule : k.entries ≡ clock (events t) e = clock_read (events t) t.clocks.items e k t.clocked h is in
+    let within : e < length (events t) = omega (arith, clocks_as_events t) in
     record {
       within = within;
       rule = rule;
@@ -55,19 +58,19 @@ clock_of t e k h is =
     }
 
 pub clock_found : (t : Trace) (e : ℕ) (o : Option Clock) →
-    MatchOption o (length t.steps.items ≤ e) (λ k. (e < length t.steps.items) × ((d : Step) → k ≡ (get_or t.steps.items e d).clock)) → ClockAt t e o
-clock_found t e None found = omega (arith, length_recorded t.steps.items)
+    MatchOption o (length t.clocks.items ≤ e) (λ k. (e < length t.clocks.items) × (k ≡ get_or t.clocks.items e k)) → ClockAt t e o
+clock_found t e None found = omega (arith, clocks_as_events t)
 clock_found t e (Some k) found = clock_of t e k found.0 found.1
 
 -- the clock of the last event of a process, as it is looked up
 pub latest_found : (t : Trace) (i h : ℕ) (e : Option ℕ) (z k : Clock) → h ≡ total (events t) i → NthAt t i h e → z.entries ≡ zeros →
-    MatchOption e (k ≡ z) (λ x. x < length t.steps.items → (d : Step) → k ≡ (get_or t.steps.items x d).clock) → k.entries ≡ last_clock (events t) i
+    MatchOption e (k ≡ z) (λ x. x < length t.clocks.items → k ≡ get_or t.clocks.items x k) → k.entries ≡ last_clock (events t) i
 latest_found t i h None z k all none is found =
     let no' : total (events t) i ≡ 0 = ⊎_elim (λ pos. absurd (none (omega arith) (omega arith))) (λ ge. omega arith) (cases_lt 0 (total (events t) i)) in
     ap (λ x. x.entries) found ∙ is ∙ sym (latest_none (events t) (mattern (events t) (length (events t))) i no')
 latest_found t i h (Some e) z k all last is found =
-    let h : e < length t.steps.items = omega (arith, last.0, length_recorded t.steps.items) in
-    clock_read t.steps.items e k t.clocked h (found h)
+    let h : e < length t.clocks.items = omega (arith, last.0, clocks_as_events t) in
+    clock_read (events t) t.clocks.items e k t.clocked h (found h)
     ∙ sym (latest_at (events t) (mattern (events t) (length (events t))) i e last.0 last.1 (last.2 ∙ all))
 
 -- where a table of messages finds events, and the event at the place that it has is none, there is none

@@ -9,12 +9,11 @@ use Rattle.trace.specs.declared.clock.Clock.{Clock}
 use Rattle.trace.specs.declared.trace.Trace.{Trace}
 use Rattle.trace.specs.Events.{most, longest, by, does, number, total, source, Sending, Receiving}
 use Rattle.trace.specs.Rules.{Valid}
-use Rattle.trace.specs.Tables.{recorded}
 use Rattle.trace.specs.Clocks.{zeros, merged, latest, mattern, clock, Knows}
 
 -- the events of a trace, in file order
 abbrev pub events : Trace → List Event
-events t = recorded t.steps.items
+events t = t.events.items
 
 -- a message rule that the action of process p breaks after these events
 pub data BreaksMessages (es : List Event) (p : ℕ) : Action → Type 0 where

@@ -4,16 +4,13 @@ use Rattle.std.specs.Global.{Vec}
 use Rattle.trace.specs.declared.event.Event.{Event}
 use Rattle.trace.specs.declared.event.Action.{Action}
 use Rattle.trace.specs.declared.event.Action.TheVariants.{Local, Send, Receive}
-use Rattle.trace.specs.declared.trace.Step.{Step}
+use Rattle.trace.specs.declared.clock.Clock.{Clock}
 use Rattle.trace.specs.declared.trace.Ends.{Ends}
 use Rattle.trace.specs.Events.{most, longest, by, does, number, total, sends, source, Sending, Receiving}
 
--- the events of steps, and the entries of each clock
-abbrev pub recorded : List Step → List Event
-recorded = map (λ s. s.event)
-
-abbrev pub rows : List Step → List (List ℕ)
-rows = map (λ s. s.clock.entries)
+-- the entries of each clock
+abbrev pub rows : List Clock → List (List ℕ)
+rows = map (λ c. c.entries)
 
 -- for each process, the places of its events
 abbrev pub listed : List (Vec ℕ) → List (List ℕ)

@@ -50,7 +50,8 @@ impl TraceJob {
     fn tally(&self, side: Side, height: u32) -> u32
         ensures { result ≡ tallied (happened self.now) side height }
     {
-        (1..=height)
+        (0..height)
+            .map(|before| before + 1)
             .filter(|number| self.is_on(side, *number))
             .count() as u32
     }

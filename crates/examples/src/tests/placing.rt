@@ -1,14 +1,17 @@
+use crate::tests::owner::Owner;
 use gates::fault::OrderFault;
 use gates::gates::Gates;
 use gates::side::Side;
 use lattice::board::Board;
 use lattice::call::Call;
 use lattice::condition::{Condition, Reply};
+use lattice::lent::Lent;
 use lattice::pair::Pair;
 use lattice::play::play;
 use lattice::vector::Vector;
 use lattice::verdict::{Answer, Verdict};
 use refusal::{Layer, Refusal, Rule};
+use std::marker::PhantomData;
 use std::test::Fail;
 
 // Two vans with these orders; gate 0 likes van 1 best, gate 1 van 0.
@@ -136,6 +139,11 @@ fn pairs_and_lent_conditions(rt: HostRuntime) -> Result<(), Fail> {
     assert!(rt; probe_both(&blank, &blank, &start) == Reply::Holds);
     assert!(rt; probe_both(&blank, &gates, &start) == Reply::Lift((0, 1)));
     assert!(rt; probe_both(&gates, &blank, &start) == Reply::Lift((0, 1)));
+    let owned = Lent {
+        lender: Owner { content: gates },
+        of: PhantomData::<Gates>,
+    };
+    assert!(rt; owned.probe(&start) == Reply::Lift((0, 1)));
     Ok(())
 }
 

@@ -1,4 +1,5 @@
-use cuts::conditions::condition;
+use crate::tests::owner::Owner;
+use cuts::conditions::{Watched, condition};
 use cuts::fault::JobFault;
 use cuts::job::TraceJob;
 use lattice::board::{Board, DECIDING};
@@ -41,6 +42,20 @@ fn the_sample_cuts(rt: HostRuntime) -> Result<(), Fail> {
     assert!(rt; record(&mut job, 9, true).is_ok());
     let (answer, _, _) = search(&job);
     assert!(rt; answer == Answer::None);
+    Ok(())
+}
+
+// A condition that owns its job is searched as one that borrows it is: the sample's processes are watched for 5.
+#[test]
+fn a_condition_can_own_its_job(rt: HostRuntime) -> Result<(), Fail> {
+    let mut job = TraceJob::new(rt.alloc())?;
+    assert!(rt; record(&mut job, 5, true).is_ok());
+    let watched = Watched {
+        job: Owner { content: job },
+    };
+    let mut board = Board::new();
+    assert!(rt; board.run(&watched, DECIDING) == Answer::Found);
+    assert!(rt; board.read().count == 2);
     Ok(())
 }
 

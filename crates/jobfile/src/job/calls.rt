@@ -28,7 +28,10 @@ impl Job {
         ensures { Blank self.new }
     {
         let _ = self.trace.begin(0, 0, Wish::Code(0));
-        self.gates = Gates::none();
+        // Gates without vans are blank already.
+        if self.gates.count() > 0 {
+            self.gates = Gates::none();
+        }
         self.kind = None;
     }
 
@@ -63,19 +66,19 @@ impl Job {
         &self.trace
     }
 
-    pub fn consistent(&self) -> Consistent<'_>
+    pub fn consistent(&self) -> Consistent<&TraceJob>
         ensures { result.job.now ≡ self.now.trace }
     {
         Consistent { job: &self.trace }
     }
 
-    pub fn watched(&self) -> Watched<'_>
+    pub fn watched(&self) -> Watched<&TraceJob>
         ensures { result.job.now ≡ self.now.trace }
     {
         Watched { job: &self.trace }
     }
 
-    pub fn channels(&self) -> Channels<'_>
+    pub fn channels(&self) -> Channels<&TraceJob>
         ensures { result.job.now ≡ self.now.trace }
     {
         Channels { job: &self.trace }
@@ -89,7 +92,9 @@ impl Job {
 
     // The job's own condition: that of its trace paired with that of its gates. The part that the kind does not name
     // holds everywhere, so this is the condition of the kind that it names.
-    pub fn condition(&self) -> Pair<Pair<Consistent<'_>, Pair<Watched<'_>, Channels<'_>>>, &Gates>
+    pub fn condition(
+        &self,
+    ) -> Pair<Pair<Consistent<&TraceJob>, Pair<Watched<&TraceJob>, Channels<&TraceJob>>>, &Gates>
         ensures first { result.first.first.job.now ≡ self.now.trace }
         ensures second { result.first.second.first.job.now ≡ self.now.trace }
         ensures third { result.first.second.second.job.now ≡ self.now.trace }

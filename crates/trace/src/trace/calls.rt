@@ -5,7 +5,7 @@ ghost use Rattle.trace.specs.Tables.{receives, sent_at, received_at};
 
 use crate::clock::{Clock, PROCESSES};
 use crate::event::{Action, Event, EventFault};
-use crate::trace::{Ends, LONGEST, MESSAGES, Step, Trace};
+use crate::trace::{Ends, LONGEST, MESSAGES, Trace};
 use std::alloc::{AllocError, Global};
 use std::array;
 
@@ -16,7 +16,8 @@ impl Trace {
     {
         Ok(Trace {
             n: 0,
-            steps: Vec::with_capacity(heap, LONGEST)?,
+            events: Vec::with_capacity(heap, LONGEST)?,
+            clocks: Vec::with_capacity(heap, LONGEST)?,
             places: array::try_from_fn(|_| Vec::with_capacity(heap, LONGEST))?,
             messages: vec![in heap; Ends {
                 sent: 0,
@@ -33,7 +34,8 @@ impl Trace {
             return Err(EventFault::Process);
         }
         self.n = n;
-        self.steps.clear();
+        self.events.clear();
+        self.clocks.clear();
         for places in &mut self.places {
             places.clear();
         }
@@ -47,9 +49,10 @@ impl Trace {
         let sent = self.judge(&event)?;
         let process = event.process as usize;
         let clock = self.tick(process, sent);
-        let at = self.steps.len() as u16;
+        let at = self.events.len() as u16;
         self.places[process].push_reserved(at);
-        self.steps.push_reserved(Step { event, clock });
+        self.events.push_reserved(event);
+        self.clocks.push_reserved(clock);
         note(&mut self.messages, event.action, at);
         Ok(())
     }
@@ -102,7 +105,7 @@ impl Trace {
     {
         let mut clock = self.latest(process);
         if let Some(sent) = sent {
-            clock.merge(&self.steps[sent].clock);
+            clock.merge(&self.clocks[sent]);
         }
         clock.entries[process] = self.total(process) + 1;
         clock
@@ -113,7 +116,7 @@ impl Trace {
         ensures { result.entries ≡ last_clock (events self.now) process }
     {
         self.nth(process, self.total(process))
-            .map_or(Clock::zero(), |last| self.steps[last].clock)
+            .map_or(Clock::zero(), |last| self.clocks[last])
     }
 }
 

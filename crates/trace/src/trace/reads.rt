@@ -20,21 +20,21 @@ impl Trace {
     pub fn len(&self) -> usize
         ensures { result ≡ length (events self.now) }
     {
-        self.steps.len()
+        self.events.len()
     }
 
     // The event at a place of the file order.
     pub fn event(&self, at: usize) -> Option<Event>
         ensures { MatchOption result (length (events self.now) ≤ at) (λ e. (at < length (events self.now)) × (e ≡ event_at (events self.now) at)) }
     {
-        self.steps.get(at).map(|step| step.event)
+        self.events.get(at).copied()
     }
 
     // The vector clock of the event at a place: how many events of each process happened before it or are it.
     pub fn clock(&self, at: usize) -> Option<Clock>
         ensures { ClockAt self.now at result }
     {
-        self.steps.get(at).map(|step| step.clock)
+        self.clocks.get(at).copied()
     }
 
     // How many events a process has.
