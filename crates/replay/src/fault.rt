@@ -1,3 +1,8 @@
+ghost use Rattle.std.specs.Prelude.{◌≡◌, IsOkAnd};
+ghost use Rattle.refusal.specs.declared.Refusal.{Refusal as TheRefusal};
+ghost use Rattle.report.specs.Lines.{text_of_refusal};
+ghost use Rattle.replay.specs.declared.fault.Fault.TheVariants.{Refused};
+
 use commands::command::LineFault;
 use refusal::Refusal;
 use report::lines::{Text, refusal_text};
@@ -20,7 +25,9 @@ pub enum Fault {
 
 impl Fault {
     // The line that says so. That of a refusal is the proved text: nothing says of a `fmt` that it does not fail.
-    pub fn line(&self) -> Result<Text, fmt::Error> {
+    pub fn line(&self) -> Result<Text, fmt::Error>
+        ensures { (refusal : TheRefusal) → self.now ≡ Refused refusal → IsOkAnd result (λ text. text.bytes ≡ text_of_refusal refusal) }
+    {
         if let Fault::Refused(refusal) = self {
             return Ok(refusal_text(refusal));
         }
